@@ -1,0 +1,10 @@
+pub mod Vectors
+pub mod Products
+pub mod Floors
+pub mod Ranges
+pub mod CellSets
+pub mod Wraps
+pub mod Slabs
+pub mod Members
+pub mod Ascending
+pub mod Totals

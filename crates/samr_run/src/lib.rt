@@ -1,0 +1,15 @@
+//! The top call: what the program answers to its words and its input, whole.
+#![tactic(auto)]
+
+mod answer;
+mod blocks;
+mod check;
+mod lines;
+mod plain;
+mod reply;
+mod words;
+
+pub use plain::{Status, samr_plain};
+
+#[cfg(test)]
+mod tests;

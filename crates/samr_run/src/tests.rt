@@ -1,0 +1,248 @@
+use crate::{Status, samr_plain};
+use samr_io::{MemSink, MemSource};
+use std::test::Fail;
+
+const BLOCKS: &str =
+    "format = 1\ndim = 2\ndomain = [8, 8]\nperiodic = [false, false]\nblock = [4, 4]\n";
+
+/// What one call answers and leaves: the status, and the text in the sink.
+fn outcome(
+    rt: &HostRuntime,
+    words: &str,
+    input: &[u8],
+    failing_read: Option<u64>,
+    most: usize,
+    failing_write: Option<u64>,
+) -> Result<(Status, String), Fail> {
+    let mut list = Vec::new(rt.alloc());
+    for word in words.split_whitespace() {
+        list.push(String::from_str(rt.alloc(), word)?)?;
+    }
+    let mut reads = Vec::new(rt.alloc());
+    if let Some(call) = failing_read {
+        reads.push(call)?;
+    }
+    let mut writes = Vec::new(rt.alloc());
+    if let Some(call) = failing_write {
+        writes.push(call)?;
+    }
+    let mut source = MemSource::new(Vec::from_slice(rt.alloc(), input)?, reads);
+    let mut sink = MemSink::new(rt.alloc(), 65536, most, writes)?;
+    let status = samr_plain(rt.alloc(), list.as_slice(), &mut source, &mut sink);
+    let text = std::str::from_utf8(sink.held())?;
+    Ok((status, String::from_str(rt.alloc(), text)?))
+}
+
+#[test]
+fn check_prints_level_0_with_its_owners(rt: HostRuntime) -> Result<(), Fail> {
+    let rows = [
+        (
+            "check --ranks 3",
+            "domain = [8, 8]",
+            "samr ranks 3 levels 1 width 0 0 0\nlevel 0 boxes 4 cells 64\nbox 0 0 0 0 0 3 3 0\nbox 0 0 4 0 0 7 3 0\nbox 0 1 0 4 0 3 7 0\nbox 0 2 4 4 0 7 7 0\nend\n",
+        ),
+        (
+            "check --ranks 16",
+            "domain = [1, 1]",
+            "samr ranks 16 levels 1 width 0 0 0\nlevel 0 boxes 1 cells 1\nbox 0 0 0 0 0 0 0 0\nend\n",
+        ),
+        (
+            "check --ranks 2",
+            "domain = [9, 4]",
+            "samr ranks 2 levels 1 width 0 0 0\nlevel 0 boxes 3 cells 36\nbox 0 0 0 0 0 3 3 0\nbox 0 0 4 0 0 7 3 0\nbox 0 1 8 0 0 8 3 0\nend\n",
+        ),
+    ];
+    for (words, domain, text) in rows {
+        let input = format!(in rt.alloc();
+            "format = 1\ndim = 2\n{domain}\nperiodic = [false, false]\nblock = [4, 4]\n"
+        )?;
+        let (status, written) = outcome(&rt, words, input.as_bytes(), None, 65536, None)?;
+        assert_eq!(rt; written.as_str(), text, "{words} on {domain}");
+        assert_eq!(rt; status, Status::Done);
+    }
+    Ok(())
+}
+
+#[test]
+fn a_text_is_refused_by_its_first_fault(rt: HostRuntime) -> Result<(), Fail> {
+    // What stands in place of a line of the text above, and the line written.
+    let rows = [
+        ("domain = [8, 8]", "domain = [8, 0]", "refused 6 domain\n"),
+        ("domain = [8, 8]", "", "refused 4 domain\n"),
+        ("domain = [8, 8]", "domain = [8]", "refused 7 domain\n"),
+        (
+            "domain = [8, 8]",
+            "domain = [8, \"x\"]",
+            "refused 5 domain\n",
+        ),
+        (
+            "domain = [8, 8]",
+            "domain = [8, 8]\ncolour = 1",
+            "refused 3 colour\n",
+        ),
+        (
+            "domain = [8, 8]",
+            "domain = [8, 8]\ndomain = [8, 8]",
+            "refused 2\n",
+        ),
+        (
+            "domain = [8, 8]",
+            "domain = [9223372036854775807, 8]",
+            "refused 6 domain\n",
+        ),
+        (
+            "domain = [8, 8]",
+            "domain = [4194304, 2]",
+            "refused 10 domain\n",
+        ),
+        ("domain = [8, 8]", "domain = [8.0, 8]", "refused 5 domain\n"),
+        ("block = [4, 4]", "", "refused 4 block\n"),
+        (
+            "block = [4, 4]",
+            "block = [4, 4]\nlevels = 2",
+            "refused 12 levels\n",
+        ),
+        (
+            "block = [4, 4]",
+            "block = [4, 4]\n[[box]]",
+            "refused 12 box\n",
+        ),
+        ("dim = 2", "dim = 3", "refused 6 dim\n"),
+        ("format = 1", "format =", "refused 2\n"),
+    ];
+    for (line, instead, written) in rows {
+        let input = BLOCKS.replace(rt.alloc(), line, instead)?;
+        let (status, text) = outcome(&rt, "check --ranks 3", input.as_bytes(), None, 65536, None)?;
+        assert_eq!(rt; text.as_str(), written, "{instead}");
+        assert_eq!(rt; status, Status::Refused);
+    }
+    Ok(())
+}
+
+#[test]
+fn odd_texts_have_the_answer_of_the_definition(rt: HostRuntime) -> Result<(), Fail> {
+    let level =
+        "samr ranks 3 levels 1 width 0 0 0\nlevel 0 boxes 4 cells 64\nbox 0 0 0 0 0 3 3 0\nbox 0 0 4 0 0 7 3 0\nbox 0 1 0 4 0 3 7 0\nbox 0 2 4 4 0 7 7 0\nend\n";
+    let rows: [(&str, &str); 8] = [
+        ("", "refused 4 format\n"),
+        ("format =", "refused 2\n"),
+        ("format = 1\ndim = 2\ndomain = [8,", "refused 2\n"),
+        (
+            "\u{feff}format = 1\r\ndim = 2\r\ndomain = [8, 8]\r\nperiodic = [false, false]\r\nblock = [4, 4]\r\n",
+            level,
+        ),
+        (
+            "# a comment\nblock = [4, 4] # another\nperiodic = [ false, false ]\n\ndomain = [\n  8,\n  8,\n]\ndim = 0x2\nformat = 1",
+            level,
+        ),
+        ("format.a = 1\ndim = 2\n", "refused 4 domain\n"),
+        (
+            "format = { a = 1 }\ndim = 2\ndomain = [8, 8]\nperiodic = [false, false]\nblock = [4, 4]\n",
+            "refused 5 format\n",
+        ),
+        ("\"a b\" = 1\n", "refused 3 ?\n"),
+    ];
+    for (input, written) in rows {
+        let (_, text) = outcome(&rt, "check --ranks 3", input.as_bytes(), None, 65536, None)?;
+        assert_eq!(rt; text.as_str(), written, "{input:?}");
+    }
+    let (status, text) = outcome(&rt, "check --ranks 3", &[255], None, 65536, None)?;
+    assert_eq!(rt; text.as_str(), "refused 1\n");
+    assert_eq!(rt; status, Status::Refused);
+    Ok(())
+}
+
+#[test]
+fn long_texts_are_read_to_the_limit(rt: HostRuntime) -> Result<(), Fail> {
+    // How often a byte stands behind the first text, and the line written.
+    let rows = [
+        ("", b' ', 1_048_577, "refused 11\n"),
+        ("", b' ', 1_048_576, "refused 4 format\n"),
+        ("#", b'x', 1_048_575, "refused 4 format\n"),
+        ("a = ", b'[', 100_000, "refused 2\n"),
+    ];
+    for (front, byte, count, written) in rows {
+        let mut input = Vec::from_slice(rt.alloc(), front.as_bytes())?;
+        let more = vec![in rt.alloc(); byte; count]?;
+        input.extend_from_slice(more.as_slice())?;
+        let (status, text) = outcome(&rt, "check --ranks 1", input.as_slice(), None, 65536, None)?;
+        assert_eq!(rt; text.as_str(), written, "{count}");
+        assert_eq!(rt; status, Status::Refused);
+    }
+    Ok(())
+}
+
+#[test]
+fn other_words_are_bad_words(rt: HostRuntime) -> Result<(), Fail> {
+    let rows = [
+        "",
+        "check",
+        "check --ranks",
+        "check --ranks 0",
+        "check --ranks 03",
+        "check --ranks +3",
+        "check --ranks 17",
+        "check --ranks 99999999999999999999",
+        "check --ranks 3 --ranks 3",
+        "check --ranks 3 --seed 1",
+        "check --rank 3",
+        "checks --ranks 3",
+        "run --ranks 0",
+        "run --ranks 2",
+        "load --seed 1 --size 8 --ranks 4",
+        "sim --ranks 2",
+    ];
+    for words in rows {
+        let (status, text) = outcome(&rt, words, BLOCKS.as_bytes(), Some(0), 65536, None)?;
+        assert_eq!(rt; text.as_str(), "bad words\n", "{words}");
+        assert_eq!(rt; status, Status::Words);
+    }
+    Ok(())
+}
+
+#[test]
+fn a_fault_ends_the_run(rt: HostRuntime) -> Result<(), Fail> {
+    let words = "check --ranks 2";
+    let whole =
+        "samr ranks 2 levels 1 width 0 0 0\nlevel 0 boxes 4 cells 64\nbox 0 0 0 0 0 3 3 0\nbox 0 0 4 0 0 7 3 0\nbox 0 1 0 4 0 3 7 0\nbox 0 1 4 4 0 7 7 0\nend\n";
+    for call in 0..6 {
+        // The input is read by two calls, and the second one finds its end.
+        let (status, text) = outcome(&rt, words, BLOCKS.as_bytes(), Some(call), 65536, None)?;
+        if call < 2 {
+            assert_eq!(rt; (status, text.as_str()), (Status::ReadFault, ""));
+        } else {
+            assert_eq!(rt; (status, text.as_str()), (Status::Done, whole));
+        }
+        for most in [1usize, 8] {
+            let (status, text) = outcome(&rt, words, BLOCKS.as_bytes(), None, most, Some(call))?;
+            assert_eq!(rt; status, Status::WriteFault);
+            let held = most * call as usize;
+            assert!(rt; whole.starts_with(text.as_str()) && text.len() == held);
+        }
+    }
+    let (status, text) = outcome(&rt, words, BLOCKS.as_bytes(), None, 8, Some(2))?;
+    assert_eq!(rt;
+        (status, text.as_str()),
+        (Status::WriteFault, "samr ranks 2 lev")
+    );
+    let (status, text) = outcome(&rt, words, BLOCKS.as_bytes(), None, 0, None)?;
+    assert_eq!(rt; (status, text.as_str()), (Status::WriteFault, ""));
+    let (status, text) = outcome(&rt, "none", BLOCKS.as_bytes(), None, 4, Some(1))?;
+    assert_eq!(rt; (status, text.as_str()), (Status::WriteFault, "bad "));
+    Ok(())
+}
+
+#[test]
+fn a_status_has_its_number(rt: HostRuntime) {
+    let rows = [
+        (Status::Done, 0),
+        (Status::Words, 2),
+        (Status::Refused, 3),
+        (Status::ReadFault, 4),
+        (Status::WriteFault, 5),
+        (Status::Memory, 6),
+    ];
+    for (status, number) in rows {
+        assert_eq!(rt; status.number(), number);
+    }
+}
