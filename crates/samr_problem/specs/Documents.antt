@@ -4,10 +4,11 @@ use Rattle.samr_box.specs.declared.vector.IVec.{IVec}
 use Rattle.samr_box.specs.declared.space.Flags.{Flags}
 use Rattle.toml.specs.Data.{Data, Members, get_member, at, as_integer, as_bool}
 
--- the whole number and the truth value that a value is
+-- the whole number that a value is
 abbrev pub number_of : Option Data → ℤ → ℤ
 number_of value otherwise = unwrap_or (option_and_then as_integer value) otherwise
 
+-- the truth value that a value is
 abbrev pub flag_of : Option Data → Bool
 flag_of value = unwrap_or (option_and_then as_bool value) false
 

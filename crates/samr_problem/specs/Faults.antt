@@ -18,21 +18,25 @@ abbrev pub names_of : Members → List (List ℕ)
 names_of no_members = []
 names_of (member name d rest) = name ∷ names_of rest
 
--- how an unknown name is shown: itself, where it is 1 to 64 letters, digits, `_` and `-`; else `?`
+-- a letter, a digit, `_` or `-`
 abbrev pub is_name_byte : ℕ → Bool
 is_name_byte c =
     (nat_le 65 c && nat_le c 90) || (nat_le 97 c && nat_le c 122) || (nat_le 48 c && nat_le c 57)
     || nat_eq c 95 || nat_eq c 45
 
+-- 1 to 64 such bytes
 unfoldable pub is_plain_name : List ℕ → Bool
 is_plain_name name = nat_lt 0 (length name) && (nat_le (length name) 64 && list_all is_name_byte name)
 
+-- how an unknown name is shown: itself, where it is plain, else `?`
 unfoldable pub shown : List ℕ → List ℕ
 shown name = if is_plain_name name then name else codes "?"
 
+-- a name of the format, built or not
 unfoldable pub is_known : List ℕ → Bool
 is_known name = list_any (λ k. bytes_eq k.name name) keys || list_any (λ later. bytes_eq later name) unbuilt
 
+-- the document has a value at the name
 abbrev pub has_value : List ℕ → Members → Bool
 has_value name doc = is_some (get_member name doc)
 
@@ -51,6 +55,7 @@ has_fault Outside dim k value = fails (in_range k.kind) value
 unfoldable pub keys_with : Fault → ℕ → Members → List Key → List (List ℕ)
 keys_with fault dim doc ks = map (λ k. k.name) (filter (λ k. has_fault fault dim k (get_member k.name doc)) ks)
 
+-- the names in a document that the format does not have
 unfoldable pub unknown_keys : Members → List (List ℕ)
 unknown_keys doc = filter (λ name. not (is_known name)) (names_of doc)
 
@@ -62,10 +67,11 @@ present doc names = filter (λ name. has_value name doc) names
 unfoldable pub is_large : Members → Bool
 is_large doc = nat_lt 4194304 (cell_count (vector_at doc (codes "domain") (pos 1) (pos 1)))
 
+-- the name of the domain, where it has too many cells
 abbrev pub large_keys : Members → List (List ℕ)
 large_keys doc = if is_large doc then codes "domain" ∷ [] else []
 
--- the faults of a document in the order in which they are told: by cause, then by key
+-- the faults of a document in the order in which they are told: a list for each cause, in the order of the keys
 unfoldable pub faults_by_cause : Members → List (List Refusal)
 faults_by_cause doc =
     let dim = dim_of doc in
@@ -79,5 +85,6 @@ faults_by_cause doc =
     ∷ refusals 10 (large_keys doc)
     ∷ []
 
+-- every fault of a document
 unfoldable pub faults : Members → List Refusal
 faults doc = flat_map (λ rs. rs) (faults_by_cause doc)

@@ -14,9 +14,11 @@ pub record Key : Type 0 where
 abbrev pub key_of : Row → Key
 key_of r = record { name = r.name.now; required = r.required; kind = r.kind }
 
+-- a key that every problem has
 abbrev pub required_key : List ℕ → Kind → Key
 required_key name kind = record { name = name; required = true; kind = kind }
 
+-- the keys of the format
 unfoldable pub keys : List Key
 keys =
     required_key (codes "format") (Number (pos 1) (pos 1))

@@ -15,6 +15,7 @@ use Rattle.samr_problem.specs.Faults.{faults}
 unfoldable pub document_reading : Members → Result Fields Refusal
 document_reading doc = option_map_or (λ r. Err r) (first (faults doc)) (Ok (fields_of doc))
 
+-- the reading of a text as a document, which is refused where it is none
 unfoldable pub text_reading : List ℕ → Result Fields Refusal
 text_reading text = option_map_or document_reading (parse_document text) (Err (plain 2))
 

@@ -9,6 +9,7 @@ abbrev pub first : {X : Type 0} → List X → Option X
 first [] = None
 first (x ∷ xs) = Some x
 
+-- the refusal by a cause at a key
 abbrev pub refusal_at : ℕ → List ℕ → Refusal
 refusal_at cause name = record { cause = cause; key = name }
 
@@ -16,6 +17,7 @@ refusal_at cause name = record { cause = cause; key = name }
 abbrev pub plain : ℕ → Refusal
 plain cause = refusal_at cause []
 
+-- the refusals by a cause at each of some keys
 abbrev pub refusals : ℕ → List (List ℕ) → List Refusal
 refusals cause names = map (refusal_at cause) names
 
