@@ -2,7 +2,7 @@ ghost use Rattle.std.specs.Prelude.{◌≡◌, ◌↔◌, ◌+ℤ◌, ◌<ℤ◌
 ghost use Rattle.samr_box.specs.declared.vector.Axis.{Axis};
 ghost use Rattle.samr_box.specs.declared.vector.IVec.{IVec};
 ghost use Rattle.samr_box.specs.Vector.{at, alike, AtMost, Within};
-ghost use Rattle.samr_box.specs.Corners.{Corners, IsBox, Holds, Meet, span, cells_of, holds, holds_box, met, grown, before, from_plane, below, above, level, longest_of};
+ghost use Rattle.samr_box.specs.Corners.{Corners, IsBox, Holds, Meet, span, cells_of, holds, holds_box, meets, met, grown, before, from_plane, below, above, level, longest_of};
 
 use crate::{Axis, IVec};
 use std::marker::Model;
@@ -65,6 +65,7 @@ impl IBox {
         ensures value { result ≡ span axis self }
         ensures positive { 0 < result }
         ensures small { result < 2 ^ 32 }
+        ensures whole { IsBox self }
     {
         match axis {
             Axis::I => (self.hi.i - self.lo.i + 1) as u64,
@@ -147,11 +148,23 @@ pub fn holds_box(b: IBox, part: IBox) -> bool
     part.hi.at_most(b.hi)
 }
 
+/// Whether two boxes have a common cell.
+pub fn boxes_meet(a: IBox, b: IBox) -> bool
+    ensures value { result ≡ meets a b }
+    ensures cells { IsTrue result ↔ ((x : IVec) × Holds a x × Holds b x) }
+{
+    if !a.lo.at_most(b.hi) {
+        return false;
+    }
+    b.lo.at_most(a.hi)
+}
+
 /// The box of the common cells; `None` exactly where there are none.
 pub fn meet(a: IBox, b: IBox) -> Option<IBox>
     ensures value { result ≡ met a b }
     ensures some { IsSome result ↔ Meet a b }
     ensures cells { (x : IVec) → IsSomeAnd result (λ c. Holds c x) ↔ (Holds a x × Holds b x) }
+    ensures boxes { IfSome result IsBox }
 {
     if !a.lo.at_most(b.hi) {
         return None;

@@ -13,7 +13,9 @@ mod space;
 mod vector;
 
 pub use borders::{clamp_axis, images_meet, is_outside, mirror_axis, shifted, wrap};
-pub use ibox::{IBox, cells, contains, grow, holds_box, longest, meet, split_after, split_at};
+pub use ibox::{
+    IBox, boxes_meet, cells, contains, grow, holds_box, longest, meet, split_after, split_at,
+};
 pub use listed::Listed;
 pub use orders::{cell_order, corner_order, shift_order};
 pub use ratios::{coarsen, coarsen_cell, refine};

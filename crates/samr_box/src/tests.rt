@@ -106,6 +106,8 @@ fn pairs(rt: &impl Abort) {
     let right = flat(rt, (2, 0), (3, 1));
     let both = flat(rt, (1, 0), (2, 0));
     assert_eq!(rt; meet(left, right), None);
+    assert!(rt; !boxes_meet(left, right));
+    assert!(rt; boxes_meet(left, both));
     assert_eq!(rt; meet(both, right), Some(flat(rt, (2, 0), (2, 0))));
     assert!(rt; contains(right, IVec::new(3, 1, 0)));
     assert!(rt; !holds_box(left, both));

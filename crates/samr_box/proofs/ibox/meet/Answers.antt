@@ -32,3 +32,6 @@ pub returns-clause-cells : goal.returns-clause-cells
 returns-clause-cells c =
     rw (c.greatest.ensures, c.least.ensures, ← c.a.view_is, ← c.b.view_is)
     (Holds-common (record { lo = c.a.inside.lo; hi = c.a.inside.hi }) (record { lo = c.b.inside.lo; hi = c.b.inside.hi }))
+
+pub returns-clause-boxes : goal.returns-clause-boxes
+returns-clause-boxes c = invariant_of-result c

@@ -1,0 +1,5 @@
+pub mod Steps
+pub mod Covering
+pub mod Cutting
+pub mod Disjointness
+pub mod Chopping

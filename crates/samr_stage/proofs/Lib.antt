@@ -1,0 +1,11 @@
+pub mod Orders
+pub mod Lists
+pub mod Courses
+pub mod HeldLetters
+pub mod KeptLetters
+pub mod Machines
+pub mod Rows
+pub mod BoxLemmas
+pub mod RunLemmas
+pub mod Carrying
+pub mod TellingLemmas

@@ -1,0 +1,12 @@
+pub mod Label
+pub mod LabelLaws
+pub mod Course
+pub mod Held
+pub mod Machine
+pub mod Work
+pub mod Row
+pub mod Exchange
+pub mod Boxes
+pub mod Fragments
+pub mod Carried
+pub mod Telling
