@@ -5,6 +5,7 @@ pub mod HeldLetters
 pub mod KeptLetters
 pub mod Machines
 pub mod Rows
+pub mod Lines
 pub mod BoxLemmas
 pub mod RunLemmas
 pub mod Carrying

@@ -1,0 +1,11 @@
+pub mod NamedLetters
+pub mod InPlace
+pub mod Outcomes
+pub mod Standing
+pub mod AfterEvents
+pub mod Weights
+pub mod NeverStuck
+pub mod FirstWorld
+pub mod PlayedEvents
+pub mod Offering
+pub mod AtTheEnd

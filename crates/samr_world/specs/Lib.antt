@@ -1,0 +1,5 @@
+pub mod World
+pub mod Events
+pub mod Weight
+pub mod Plays
+pub mod Traffic
