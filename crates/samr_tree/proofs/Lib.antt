@@ -1,0 +1,8 @@
+pub mod TreeLemmas
+pub mod SumLemmas
+pub mod TellLemmas
+pub mod Totals
+pub mod TreeTotals
+pub mod TreeCourse
+pub mod TreeSteps
+pub mod OnAllLemmas

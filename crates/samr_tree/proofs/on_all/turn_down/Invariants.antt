@@ -1,0 +1,6 @@
+use Rattle.samr_tree.specs.TreeSum.{tellings_at}
+use Rattle.samr_tree.specs.OnAll.{AreNumbers}
+use Rattle.samr_tree.proofs.on_all.turn_down.Given as goal
+
+abbrev pub invariant-each : goal.invariant-each
+invariant-each l = AreNumbers (tellings_at l.values 0).number l.rank l.numbers.items
