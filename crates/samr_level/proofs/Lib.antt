@@ -1,0 +1,15 @@
+pub mod Reaches
+pub mod Domains
+pub mod Sorting
+pub mod RefLaws
+pub mod Overlapping
+pub mod Steps
+pub mod Searches
+pub mod Spreading
+pub mod BlockPlaces
+pub mod BlockRows
+pub mod BlockNumbers
+pub mod BlockCells
+pub mod Level0Laws
+pub mod Level0Pairs
+pub mod FinerAreas

@@ -1,0 +1,9 @@
+pub mod Refs
+pub mod RefOrders
+pub mod Regions
+pub mod Levels
+pub mod Overlaps
+pub mod Blocks
+pub mod Cuts
+pub mod Pairs
+pub mod Neighbours
