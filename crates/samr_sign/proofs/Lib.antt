@@ -1,0 +1,11 @@
+pub mod Slices
+pub mod Places
+pub mod Marks
+pub mod Tallies
+pub mod Rows
+pub mod Sums
+pub mod Lines
+pub mod Extents
+pub mod CutLaws
+pub mod Shrinking
+pub mod Fates
