@@ -1,0 +1,10 @@
+pub mod OneAxis
+pub mod Factors
+pub mod Ways
+pub mod FoundLaws
+pub mod Everything
+pub mod Windows
+pub mod SearchLaws
+pub mod RowLaws
+pub mod StageLemmas
+pub mod AllLemmas
