@@ -1,7 +1,16 @@
 pub mod Keys
 pub mod Values
-pub mod Documents
+pub mod Types
+pub mod Lengths
+pub mod Capped
+pub mod Contexts
+pub mod Ranges
+pub mod Slots
 pub mod Fields
 pub mod Refusals
 pub mod Faults
 pub mod Reading
+pub mod Findings
+pub mod Tables
+pub mod Lists
+pub mod Problems

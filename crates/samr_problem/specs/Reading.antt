@@ -9,7 +9,11 @@ use Rattle.samr_problem.specs.declared.refusal.Unread.{Unread}
 use Rattle.samr_problem.specs.declared.refusal.Unread.TheVariants.{Refused, NoMemory}
 use Rattle.samr_problem.specs.Refusals.{first, plain}
 use Rattle.samr_problem.specs.Fields.{Fields, fields_of}
-use Rattle.samr_problem.specs.Faults.{faults}
+use Rattle.samr_problem.specs.Faults.{faults, field_faults}
+
+-- some fields, or the first fault of them together
+unfoldable pub together_reading : Fields → Result Fields Refusal
+together_reading p = option_map_or (λ r. Err r) (first (field_faults p)) (Ok p)
 
 -- the first fault of a document, or its fields where it has none
 unfoldable pub document_reading : Members → Result Fields Refusal

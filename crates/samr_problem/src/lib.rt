@@ -1,23 +1,30 @@
 //! The problem text: a TOML document, read to a problem that is accepted or refused by its first fault.
-//!
-//! The table of keys stands twice, here for the program and in `specs/Keys.antt` for the definition:
-//! the definition says of a whole document which faults it has, and takes the first of them.
 #![tactic(auto)]
 
-mod checks;
+mod context;
 mod document;
+mod field;
+mod finding;
 mod keys;
+mod lengths;
+mod lists;
 mod lookup;
 mod names;
+mod probe;
 mod problem;
+mod ranges;
 mod read;
 mod refusal;
-mod size;
+mod tables;
 #[cfg(test)]
 mod tests;
 mod text;
-mod values;
+mod types;
+mod walk;
+mod width;
 
+pub use field::{Border, Field, Init};
+pub use probe::Probe;
 pub use problem::Problem;
 pub use read::read_problem;
 pub use refusal::{Refusal, Unread};

@@ -1,9 +1,8 @@
-ghost use Rattle.std.specs.Prelude.{◌≡◌, option_map};
-ghost use Rattle.std.specs.Option.{option_copied};
-ghost use Rattle.samr_problem.specs.Refusals.{refusal_at, IsRefusal, Refuses};
+ghost use Rattle.std.specs.Prelude.{◌≡◌};
+ghost use Rattle.samr_problem.specs.Refusals.{refusal_at, IsRefusal};
 
 use crate::Text;
-use std::alloc::Global;
+use std::alloc::{AllocError as NoMemory, Global};
 
 /// Why a text is not a problem: the number of the cause, and the key at which it holds (empty where
 /// the cause shows none).
@@ -22,6 +21,17 @@ pub enum Unread {
     NoMemory,
 }
 
+impl From<NoMemory> for Unread {
+    ghost use Rattle.std.specs.Prelude.{◌≡◌};
+    ghost use Rattle.samr_problem.specs.declared.refusal.Unread.TheVariants.{NoMemory};
+
+    ghost from_gives = { λ _ unread. unread ≡ NoMemory };
+
+    fn from(_error: NoMemory) -> Unread {
+        Unread::NoMemory
+    }
+}
+
 /// The refusal by a cause at a key.
 pub fn refuse(alloc: Global, cause: u8, key: &str) -> Unread
     ensures { IsRefusal result (refusal_at cause key.now) }
@@ -32,15 +42,5 @@ pub fn refuse(alloc: Global, cause: u8, key: &str) -> Unread
             key: Text::from_string(key),
         }),
         Err(_) => Unread::NoMemory,
-    }
-}
-
-/// Refuses by a cause where there is a key at which it holds.
-pub fn refuse_at(alloc: Global, cause: u8, key: Option<&str>) -> Result<(), Unread>
-    ensures { Refuses result (option_map (refusal_at cause) (option_copied key.entry)) }
-{
-    match key {
-        Some(key) => Err(refuse(alloc, cause, key)),
-        None => Ok(()),
     }
 }

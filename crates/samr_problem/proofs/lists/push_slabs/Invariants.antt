@@ -1,0 +1,7 @@
+use Rattle.std.proofs.Common.{◌≡◌, ◌++◌, map, take}
+use Rattle.toml.specs.View.{table_view}
+use Rattle.samr_problem.specs.Fields.{slab_of}
+use Rattle.samr_problem.proofs.lists.push_slabs.Given as goal
+
+abbrev pub invariant-loop-table : goal.invariant-loop-table
+invariant-loop-table l = l.shapes.items ≡ l.fn.shapes.items ++ map (slab_of l.dim) (map (λ t. table_view t.now) (take l.table-index l.tables))
