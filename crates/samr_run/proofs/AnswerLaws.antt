@@ -1,6 +1,6 @@
 -- Laws of the answer: what decides it, and how much of the input it looks at.
-use Rattle.std.proofs.Common.{◌≡◌, ℕ, ◌<◌, ◌≤◌, List, Bool, true, false, cond, Option, Some, None, Result, Ok, Err, refl, ap, arith, sym, ◌∙◌, inl, inr, subst, take, length}
-use Rattle.std.specs.Prelude.{IfSome, nat_lt, ◌⊎◌}
+use Rattle.std.proofs.Common.{◌≡◌, ℕ, List, true, Option, Some, None, Result, Ok, Err, refl, ap, arith, inl, inr, take, length}
+use Rattle.std.specs.Prelude.{IfSome, nat_lt}
 use Rattle.std.proofs.lemmas.List.{take_all, length-take}
 use Rattle.std.proofs.lemmas.Bool.{cases_lt}
 use Rattle.std.proofs.lemmas.Bool.Decides.{nat_tests}
@@ -10,7 +10,7 @@ use Rattle.samr_run.specs.declared.words.Command.{Command}
 use Rattle.samr_run.specs.declared.words.Command.TheVariants.{Check}
 use Rattle.samr_problem.specs.Fields.{Fields}
 use Rattle.samr_problem.specs.declared.refusal.Refusal.{Refusal}
-use Rattle.samr_run.specs.declared.answer.Ending.TheVariants.{Done, Words, Refused}
+use Rattle.samr_run.specs.declared.answer.Ending.TheVariants.{Words}
 use Rattle.samr_run.specs.Words.{command_of}
 use Rattle.samr_run.specs.Check.{check_text}
 use Rattle.samr_run.specs.Answer.{answer, answer_of, bad_words, command_answer}

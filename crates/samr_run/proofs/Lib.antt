@@ -1,6 +1,8 @@
 pub mod Ranges
-pub mod BlockBounds
-pub mod Numbered
-pub mod LevelCells
 pub mod WrittenNumbers
 pub mod AnswerLaws
+pub mod Pieces
+pub mod Level0Bounds
+pub mod ByOwner
+pub mod EdgesByRank
+pub mod Regions

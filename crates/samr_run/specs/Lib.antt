@@ -1,6 +1,6 @@
 pub mod Lines
-pub mod Blocks
 pub mod Check
 pub mod Words
 pub mod Answer
 pub mod Written
+pub mod LevelLines

@@ -1,5 +1,5 @@
 -- The words of the program, and the command that they are.
-use Rattle.std.specs.Prelude.{ℕ, suc, ◌-◌, Bool, ◌&&◌, List, [], ◌∷◌, codes, map, Option, None, Some, if◌then◌else◌, String, string_bytes}
+use Rattle.std.specs.Prelude.{ℕ, suc, ◌-◌, ◌<◌, ◌&&◌, List, [], ◌∷◌, codes, map, Option, None, if◌then◌else◌, String, string_bytes}
 use Rattle.std.specs.declared.alloc.Global.{Global}
 use Rattle.std.specs.Fmt.{decimal}
 use Rattle.std.specs.List.{find, range_with_len}
@@ -17,6 +17,10 @@ unfoldable pub command_of : List (List ℕ) → Option Command
 command_of (command ∷ name ∷ value ∷ []) =
     if bytes_eq command (codes "check") && bytes_eq name (codes "--ranks") then option_map Check (number_between 1 16 value) else None
 command_of _ = None
+
+-- at least one rank
+abbrev pub IsCommand : Command → Type 0
+IsCommand (Check ranks) = 0 < ranks
 
 -- the bytes of the words
 abbrev pub texts : List (String Global) → List (List ℕ)

@@ -1,27 +1,32 @@
-ghost use Rattle.std.specs.Prelude.{◌≡◌, ◌++◌, ◌∷◌, [], ◌<◌, ◌^◌, pos, OnOk, IfOk, sum_by, length, codes};
+ghost use Rattle.std.specs.Prelude.{◌≡◌, ◌++◌, ◌<◌, ◌^◌, pos, OnOk, IfOk, sum_by, codes};
 ghost use Rattle.std.specs.List.{flat_map};
 ghost use Rattle.samr_box.specs.Corners.{cells_of};
-ghost use Rattle.samr_run.specs.Blocks.{Owned};
+ghost use Rattle.samr_level.specs.Levels.{IsLevel};
+ghost use Rattle.samr_level.specs.Overlaps.{of_rank};
+ghost use Rattle.samr_box.specs.Space.{is_zero};
 ghost use Rattle.samr_run.specs.Lines.{part, line};
-ghost use Rattle.samr_run.specs.Check.{first_line, level_line, box_line, check_text};
+ghost use Rattle.samr_run.specs.LevelLines.{level_line, box_line, edge_lines};
+ghost use Rattle.samr_run.specs.Check.{HasLevel0, area_of, level0_of, edges0_of, first_line, told_edges, check_text};
 
-use crate::blocks::{OwnedBox, level0};
-use crate::lines::{put_count, put_count_line, put_line, put_vector_line};
-use samr_box::cells;
+use crate::level_lines::{put_boxes, put_edges, put_level_line};
+use crate::lines::{put_count, put_line, put_vector_line};
+use samr_box::{Domain, IVec};
+use samr_level::{BoxRef, Region, level0_pair, whole_level0};
 use samr_problem::Problem;
 use std::alloc::{AllocError as NoMemory, Global};
 
-/// The number of cells of a level.
-fn cells_of_level(level: &[OwnedBox]) -> u64
-    requires { sum_by (λ b. cells_of b.bx) level.now < 2 ^ 63 }
-    ensures value { result ≡ sum_by (λ b. cells_of b.bx) level.now }
-    ensures small { result < 2 ^ 63 }
+/// The domain of level 0 of a problem.
+fn region_of(alloc: Global, problem: &Problem) -> Result<Region, NoMemory>
+    ensures region { IfOk result (λ region. region ≡ area_of problem.now) }
+    ensures level0 { HasLevel0 problem.now }
 {
-    let mut total = 0u64;
-    for b in level {
-        total += cells(b.bx);
-    }
-    total
+    let frame = Domain {
+        size: problem.domain,
+        periodic: problem.periodic,
+    };
+    let parts = problem.parts.copied(alloc)?;
+    let region = Region::new(frame, parts.into_vec());
+    Ok(region.unwrap())
 }
 
 #[tactic(auto, unfolding(crate::specs::Check::first_line))]
@@ -29,57 +34,110 @@ fn put_first_line(out: &mut Vec<u8>, problem: &Problem, ranks: u16) -> Result<()
     ensures { OnOk result (out.new.items ≡ out.old.items ++ first_line problem.now ranks) }
 {
     put_count(out, "samr ranks", u64::from(ranks))?;
-    put_count(out, " levels", 1)?;
+    put_count(out, " levels", u64::from(problem.levels))?;
     put_vector_line(out, " width", problem.width)?;
     Ok(())
 }
 
-#[tactic(auto, unfolding(crate::specs::Check::level_line))]
-fn put_level_line(out: &mut Vec<u8>, number: u8, level: &[OwnedBox]) -> Result<(), NoMemory>
-    requires { sum_by (λ b. cells_of b.bx) level.now < 2 ^ 63 }
-    ensures { OnOk result (out.new.items ≡ out.old.items ++ level_line number level.now) }
+/// Whether the numbers of all axes are 0.
+fn is_zero(v: IVec) -> bool
+    ensures { result ≡ is_zero v }
 {
-    put_count(out, "level", u64::from(number))?;
-    put_count(out, " boxes", level.len() as u64)?;
-    put_count_line(out, " cells", cells_of_level(level))?;
+    v.k == 0 && v.j == 0 && v.i == 0
+}
+
+/// Appends the edges of one rank's boxes of level 0 to level 0.
+#[tactic(auto, unfolding(crate::specs::Check::edges0_of))]
+fn put_edges_of_rank(
+    alloc: Global,
+    out: &mut Vec<u8>,
+    problem: &Problem,
+    region: &Region,
+    ranks: u16,
+    rank: u16,
+) -> Result<(), NoMemory>
+    requires region { region.now ≡ area_of problem.now }
+    requires level0 { HasLevel0 problem.now }
+    ensures { OnOk result (out.new.items ≡ out.old.items ++ edge_lines 0 0 (of_rank rank (edges0_of problem.now ranks))) }
+{
+    let pair = level0_pair(alloc, region, problem.block, ranks, rank, problem.width)?;
+    put_edges(out, 0, 0, pair.forth.edges.as_slice())?;
     Ok(())
 }
 
-#[tactic(auto, unfolding(crate::specs::Check::box_line))]
-fn put_box_line(out: &mut Vec<u8>, number: u8, owned: OwnedBox) -> Result<(), NoMemory>
-    ensures { OnOk result (out.new.items ≡ out.old.items ++ box_line number owned) }
+/// Appends the edges of level 0 to itself, rank by rank.
+fn put_all_edges(
+    alloc: Global,
+    out: &mut Vec<u8>,
+    problem: &Problem,
+    region: &Region,
+    ranks: u16,
+) -> Result<(), NoMemory>
+    requires ranks { 0 < ranks }
+    requires region { region.now ≡ area_of problem.now }
+    requires level0 { HasLevel0 problem.now }
+    requires level { IsLevel (area_of problem.now) ranks (level0_of problem.now ranks) }
+    ensures { OnOk result (out.new.items ≡ out.old.items ++ edge_lines 0 0 (edges0_of problem.now ranks)) }
 {
-    let lo = owned.bx.lo;
-    let hi = owned.bx.hi;
-    let level = i64::from(number);
-    let owner = i64::from(owned.owner);
-    put_line(
-        out,
-        "box",
-        &[level, owner, lo.i, lo.j, lo.k, hi.i, hi.j, hi.k],
-    )?;
-    Ok(())
-}
-
-fn put_boxes(out: &mut Vec<u8>, number: u8, level: &[OwnedBox]) -> Result<(), NoMemory>
-    ensures { OnOk result (out.new.items ≡ out.old.items ++ flat_map (λ b. box_line number b) level.now) }
-{
-    for owned in level {
-        put_box_line(out, number, *owned)?;
+    for rank in 0..ranks {
+        put_edges_of_rank(alloc, out, problem, region, ranks, rank)?;
     }
     Ok(())
 }
 
-/// The text that `check` prints of a problem: level 0 with its owners.
+/// Appends the edges of level 0 to itself, where the width has a number that is not 0.
+#[tactic(auto, unfolding(crate::specs::Check::told_edges))]
+fn put_told_edges(
+    alloc: Global,
+    out: &mut Vec<u8>,
+    problem: &Problem,
+    region: &Region,
+    ranks: u16,
+) -> Result<(), NoMemory>
+    requires ranks { 0 < ranks }
+    requires region { region.now ≡ area_of problem.now }
+    requires level0 { HasLevel0 problem.now }
+    requires level { IsLevel (area_of problem.now) ranks (level0_of problem.now ranks) }
+    ensures { OnOk result (out.new.items ≡ out.old.items ++ told_edges problem.now ranks) }
+{
+    if is_zero(problem.width) {
+        return Ok(());
+    }
+    put_all_edges(alloc, out, problem, region, ranks)?;
+    Ok(())
+}
+
+/// Level 0 of a problem, whose boxes have all together fewer than 2^63 cells.
+fn level0_of(
+    alloc: Global,
+    problem: &Problem,
+    region: &Region,
+    ranks: u16,
+) -> Result<Vec<BoxRef>, NoMemory>
+    requires ranks { 0 < ranks }
+    requires region { region.now ≡ area_of problem.now }
+    requires level0 { HasLevel0 problem.now }
+    ensures value { IfOk result (λ v. v.items ≡ level0_of problem.now ranks) }
+    ensures level { IfOk result (λ v. IsLevel (area_of problem.now) ranks (level0_of problem.now ranks)) }
+    ensures few { IfOk result (λ v. sum_by (λ b. cells_of b.bx) v.items < 2 ^ 63) }
+{
+    let level = whole_level0(alloc, region, problem.block, ranks)?;
+    Ok(level)
+}
+
+/// The text that `check` prints of a problem: level 0 with its owners, and its edges to itself.
 #[tactic(auto, unfolding(crate::specs::Check::check_text))]
 pub fn check_text(alloc: Global, problem: &Problem, ranks: u16) -> Result<Vec<u8>, NoMemory>
+    requires { 0 < ranks }
     ensures { IfOk result (λ text. text.items ≡ check_text problem.now ranks) }
 {
-    let level = level0(alloc, problem, ranks)?;
+    let region = region_of(alloc, problem)?;
+    let level = level0_of(alloc, problem, &region, ranks)?;
     let mut out = Vec::new(alloc);
     put_first_line(&mut out, problem, ranks)?;
     put_level_line(&mut out, 0, level.as_slice())?;
     put_boxes(&mut out, 0, level.as_slice())?;
+    put_told_edges(alloc, &mut out, problem, &region, ranks)?;
     put_line(&mut out, "end", &[])?;
     Ok(out)
 }

@@ -2,8 +2,8 @@
 #![tactic(auto)]
 
 mod answer;
-mod blocks;
 mod check;
+mod level_lines;
 mod lines;
 mod plain;
 mod reply;

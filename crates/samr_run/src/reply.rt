@@ -1,10 +1,10 @@
-ghost use Rattle.std.specs.Prelude.{◌≡◌, ◌++◌, ◌∷◌, [], List, ℕ, None, OnOk, IfOk, IfSome};
+ghost use Rattle.std.specs.Prelude.{◌≡◌, ◌<◌, ◌++◌, ◌∷◌, [], List, ℕ, None, OnOk, IfOk, IfSome};
 ghost use Rattle.samr_io.specs.Faults.{HasReadCause};
 ghost use Rattle.samr_io.specs.Transfers.{TakesAtMost};
 ghost use Rattle.samr_problem.specs.Reading.{reading};
 ghost use Rattle.samr_run.specs.Answer.{answer_of, answer, bad_words, command_answer, behind_blank, refusal_line};
 ghost use Rattle.samr_run.specs.Check.{check_text};
-ghost use Rattle.samr_run.specs.Words.{command_of, texts};
+ghost use Rattle.samr_run.specs.Words.{IsCommand, command_of, texts};
 
 use crate::answer::{Ending, Reply};
 use crate::check::check_text;
@@ -55,6 +55,7 @@ fn bad_words(alloc: Global) -> Result<Reply, NoMemory>
 
 /// The answer to `check` on this input.
 fn check_reply(alloc: Global, ranks: u16, input: &[u8]) -> Result<Reply, NoMemory>
+    requires { 0 < ranks }
     ensures { IfOk result (λ reply. reply ≡ answer_of (λ p. check_text p ranks) (reading input.now)) }
 {
     match read_problem(alloc, input) {
@@ -78,6 +79,7 @@ fn check_reply(alloc: Global, ranks: u16, input: &[u8]) -> Result<Reply, NoMemor
 
 #[tactic(auto, unfolding(crate::specs::Answer::command_answer))]
 fn command_reply(alloc: Global, command: Command, input: &[u8]) -> Result<Reply, NoMemory>
+    requires { IsCommand command }
     ensures { IfOk result (λ reply. reply ≡ command_answer input.now command) }
 {
     match command {

@@ -64,6 +64,47 @@ fn check_prints_level_0_with_its_owners(rt: HostRuntime) -> Result<(), Fail> {
 }
 
 #[test]
+fn check_prints_the_edges_of_level_0(rt: HostRuntime) -> Result<(), Fail> {
+    // The words, the problem's lines behind the format, and the text.
+    let rows = [
+        (
+            "check --ranks 1",
+            "format = 1\ndim = 2\ndomain = [4, 8]\nperiodic = [true, false]\nblock = [4, 8]\nghost = [4, 0]\n",
+            "samr ranks 1 levels 1 width 4 0 0\nlevel 0 boxes 1 cells 32\nbox 0 0 0 0 0 3 7 0\nedge 0 0 0 0 0 0 3 7 0 0 0 0 0 3 7 0 -1 0 0\nedge 0 0 0 0 0 0 3 7 0 0 0 0 0 3 7 0 0 0 0\nedge 0 0 0 0 0 0 3 7 0 0 0 0 0 3 7 0 1 0 0\nend\n",
+        ),
+        (
+            "check --ranks 2",
+            "format = 1\ndim = 3\ndomain = [4, 4, 8]\nperiodic = [false, false, false]\nblock = [4, 4, 4]\nghost = [0, 0, 1]\n",
+            "samr ranks 2 levels 1 width 0 0 1\nlevel 0 boxes 2 cells 128\nbox 0 0 0 0 0 3 3 3\nbox 0 1 0 0 4 3 3 7\nedge 0 0 0 0 0 0 3 3 3 0 0 0 0 3 3 3 0 0 0\nedge 0 0 0 0 0 0 3 3 3 1 0 0 4 3 3 7 0 0 0\nedge 0 0 1 0 0 4 3 3 7 0 0 0 0 3 3 3 0 0 0\nedge 0 0 1 0 0 4 3 3 7 1 0 0 4 3 3 7 0 0 0\nend\n",
+        ),
+        (
+            "check --ranks 2",
+            "format = 2\ndim = 2\ndomain = [8, 8]\nperiodic = [false, false]\nblock = [4, 4]\nghost = [1, 1]\nboundary = [9, 9]\n[[part]]\nlo = [0, 0]\nhi = [3, 7]\n[[part]]\nlo = [4, 0]\nhi = [7, 3]\n",
+            "samr ranks 2 levels 1 width 1 1 0\nlevel 0 boxes 3 cells 48\nbox 0 0 0 0 0 3 3 0\nbox 0 0 0 4 0 3 7 0\nbox 0 1 4 0 0 7 3 0\nedge 0 0 0 0 0 0 3 3 0 0 0 0 0 3 3 0 0 0 0\nedge 0 0 0 0 0 0 3 3 0 0 0 4 0 3 7 0 0 0 0\nedge 0 0 0 0 0 0 3 3 0 1 4 0 0 7 3 0 0 0 0\nedge 0 0 0 0 4 0 3 7 0 0 0 0 0 3 3 0 0 0 0\nedge 0 0 0 0 4 0 3 7 0 0 0 4 0 3 7 0 0 0 0\nedge 0 0 0 0 4 0 3 7 0 1 4 0 0 7 3 0 0 0 0\nedge 0 0 1 4 0 0 7 3 0 0 0 0 0 3 3 0 0 0 0\nedge 0 0 1 4 0 0 7 3 0 0 0 4 0 3 7 0 0 0 0\nedge 0 0 1 4 0 0 7 3 0 1 4 0 0 7 3 0 0 0 0\nend\n",
+        ),
+    ];
+    for (words, input, text) in rows {
+        let (status, written) = outcome(&rt, words, input.as_bytes(), None, 65536, None)?;
+        assert_eq!(rt; written.as_str(), text, "{input}");
+        assert_eq!(rt; status, Status::Done);
+    }
+    let (status, text) = outcome(
+        &rt,
+        "check --ranks 1",
+        b"format = 1\ndim = 2\ndomain = [8, 8]\nperiodic = [false, false]\nblock = [4, 4]\nlevels = 2\nghost = [2, 2]\n",
+        None,
+        65536,
+        None,
+    )?;
+    assert_eq!(rt; status, Status::Done);
+    assert!(rt;
+        text.as_str()
+            .starts_with("samr ranks 1 levels 2 width 2 2 0\n")
+    );
+    Ok(())
+}
+
+#[test]
 fn a_text_is_refused_by_its_first_fault(rt: HostRuntime) -> Result<(), Fail> {
     // What stands in place of a line of the text above, and the line written.
     let rows = [
@@ -99,15 +140,30 @@ fn a_text_is_refused_by_its_first_fault(rt: HostRuntime) -> Result<(), Fail> {
         ("block = [4, 4]", "", "refused 4 block\n"),
         (
             "block = [4, 4]",
-            "block = [4, 4]\nlevels = 2",
-            "refused 12 levels\n",
+            "block = [4, 4]\nlevels = 2\nghost = [3, 3]",
+            "refused 8 ghost\n",
+        ),
+        (
+            "domain = [8, 8]\nperiodic = [false, false]\nblock = [4, 4]",
+            "domain = [4, 8]\nperiodic = [true, false]\nblock = [4, 8]\nghost = [5, 0]",
+            "refused 9 domain\n",
         ),
         (
             "block = [4, 4]",
             "block = [4, 4]\n[[box]]",
-            "refused 12 box\n",
+            "refused 4 box.0.lo\n",
         ),
-        ("dim = 2", "dim = 3", "refused 6 dim\n"),
+        (
+            "block = [4, 4]",
+            "block = [4, 4]\n[[box]]\n\"a b\" = 1",
+            "refused 3 box.0.?\n",
+        ),
+        (
+            "block = [4, 4]",
+            "block = [4, 4]\nupdate = [1, 1]",
+            "refused 6 update\n",
+        ),
+        ("dim = 2", "dim = 3", "refused 7 domain\n"),
         ("format = 1", "format =", "refused 2\n"),
     ];
     for (line, instead, written) in rows {

@@ -1,5 +1,5 @@
 ghost use Rattle.std.specs.Prelude.{◌≡◌, ◌<◌, ◌≤◌, ◌^◌, IfSome};
-ghost use Rattle.samr_run.specs.Words.{number_between, command_of, texts};
+ghost use Rattle.samr_run.specs.Words.{number_between, command_of, IsCommand, texts};
 
 use itoa::Buffer;
 
@@ -14,7 +14,7 @@ pub enum Command {
 fn number_between(low: u64, high: u64, word: &str) -> Option<u64>
     requires { high < 2 ^ 64 }
     ensures value { result ≡ number_between low high word.now }
-    ensures within { IfSome result (λ n. n ≤ high) }
+    ensures within { IfSome result (λ n. (low ≤ n) × (n ≤ high)) }
 {
     let Ok(number) = word.parse::<u64>() else {
         return None;
@@ -35,7 +35,8 @@ fn number_between(low: u64, high: u64, word: &str) -> Option<u64>
 #[tactic(auto, unfolding(crate::specs::Words::command_of))]
 /// The command that the words are: `None` exactly where they are of no command's form.
 pub fn command_of(words: &[String]) -> Option<Command>
-    ensures { result ≡ command_of (texts words.now) }
+    ensures value { result ≡ command_of (texts words.now) }
+    ensures ranks { IfSome result IsCommand }
 {
     let [command, name, value] = words else {
         return None;
