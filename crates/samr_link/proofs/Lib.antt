@@ -1,0 +1,7 @@
+pub mod Seats
+pub mod Rules
+pub mod Zips
+pub mod EndLemmas
+pub mod Lending
+pub mod Returning
+pub mod Journals

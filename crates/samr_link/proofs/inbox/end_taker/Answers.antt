@@ -1,0 +1,5 @@
+use Rattle.samr_link.proofs.Rules.{ends_taker}
+use Rattle.samr_link.proofs.inbox.end_taker.Goals as goal
+
+pub absorb-requires-clause-rule : goal.absorb-requires-clause-rule
+absorb-requires-clause-rule g c = ends_taker (λ x. (g.M.Mail.name x).sender) _ _ _ _ c.requires.keeps c.requires.posts c.requires.taker
