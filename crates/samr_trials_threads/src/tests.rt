@@ -1,0 +1,81 @@
+ghost use Rattle.std.specs.Prelude.{◌≡◌, ◌<◌, length};
+ghost use Rattle.samr_tree.specs.TreeSum.{AreSummable};
+
+use crate::alarms::Loud;
+use crate::gates::Meeting;
+use crate::sums::{five, four, team, three};
+use samr_drive::{Alarm, Halt, OpenGate, Stop, drive, run_ranks};
+use samr_link::{Fabric, QueueFabric};
+use samr_stage::Machine;
+use samr_tree::{SumMail, TreeSum};
+use std::alloc::{AllocError as NoMemory, Global};
+use std::sync::{Arc, Wait};
+use std::test::Fail;
+
+/// What the driver of the first rank answers in the sum of these numbers, where no other rank runs.
+fn drive_first<R: Wait, A: Alarm>(
+    rt: &R,
+    alloc: Global,
+    values: Vec<u64>,
+    alarm: &mut A,
+) -> Result<Result<TreeSum, Stop>, NoMemory>
+    requires summable { AreSummable values.items }
+    requires ranks { 0 < length values.items }
+{
+    let ranks = values.len() as u16;
+    let run = Arc::new(alloc, values)?;
+    let machine = Machine::new(alloc, TreeSum::new(alloc, run, 0)?)?;
+    let mut fabric = QueueFabric::<SumMail>::new();
+    let mut ends = fabric.make_ends(alloc, ranks)?;
+    let end = ends.swap_remove(0);
+    let (answer, _end) = drive(rt, alloc, machine, end, alarm);
+    Ok(answer)
+}
+
+#[test]
+fn a_rank_alone_finishes(rt: HostRuntime) -> Result<(), Fail> {
+    let halt = Halt::new();
+    let mut bell = halt.bell();
+    let answer = drive_first(&rt, rt.alloc(), five(rt.alloc())?, &mut bell)?;
+    let Ok(program) = answer else {
+        return Err("the rank did not finish".into());
+    };
+    assert_eq!(rt; program.total(), Some(5));
+    Ok(())
+}
+
+#[test]
+fn an_alarm_halts_a_waiting_rank(rt: HostRuntime) -> Result<(), Fail> {
+    let mut alarm = Loud::new();
+    let answer = drive_first(&rt, rt.alloc(), three(rt.alloc())?, &mut alarm)?;
+    let Err(stop) = answer else {
+        return Err("the rank did not halt".into());
+    };
+    assert_eq!(rt; stop, Stop::Halted);
+    Ok(())
+}
+
+#[test]
+fn ranks_sum_up_in_threads(rt: HostRuntime) -> Result<(), Fail> {
+    let mut fabric = QueueFabric::<SumMail>::new();
+    let team = team(rt.alloc(), three(rt.alloc())?)?;
+    let ended = run_ranks(&rt, rt.alloc(), team, &mut fabric, &OpenGate)?;
+    assert_eq!(rt; ended.len(), 3);
+    for program in &ended {
+        assert_eq!(rt; program.total(), Some(21));
+    }
+    Ok(())
+}
+
+#[test]
+fn all_ranks_run_at_once(rt: HostRuntime) -> Result<(), Fail> {
+    let mut fabric = QueueFabric::<SumMail>::new();
+    let team = team(rt.alloc(), four(rt.alloc())?)?;
+    let gate = Meeting::new(4);
+    let ended = run_ranks(&rt, rt.alloc(), team, &mut fabric, &gate)?;
+    assert!(rt; !gate.missed());
+    for program in &ended {
+        assert_eq!(rt; program.total(), Some(10));
+    }
+    Ok(())
+}
