@@ -1,17 +1,17 @@
 -- The ends over queues: which pass a call uses, and what it leaves.
-use Rattle.std.proofs.Common.{◌≡◌, ◌≢◌, ◌⊎◌, ℕ, ◌<◌, cond, eqb, List, [], ◌∷◌, ◌++◌, length, get_or, set, map, sym, refl, ap, ◌∙◌, subst, ⊎_elim, append-nil, Bool, true, false, Option, All, arith}
+use Rattle.std.proofs.Common.{◌≡◌, ◌≢◌, ℕ, ◌<◌, cond, eqb, List, [], ◌∷◌, ◌++◌, length, get_or, set, map, sym, ap, ◌∙◌, subst, ⊎_elim, append-nil, true, false, Option, All, arith}
 use Rattle.std.specs.List.{AllZip}
 use Rattle.std.proofs.lemmas.Bool.Decides.{eqb_tells}
-use Rattle.std.proofs.lemmas.List.{map-append, length-map, get_or-map, get_or-set_same, get_or-set_other, map-set, set-get_or, get_or_default, length-set}
+use Rattle.std.proofs.lemmas.List.{map-append, length-map, get_or-map, get_or-set_same, get_or-set_other, map-set, set-get_or}
 use Rattle.samr_link.proofs.Zips.{zip_set, zip_at}
 use Rattle.atomic_table.specs.Seated.{TableId}
 use Rattle.crossbeam_queue.specs.declared.array_queue.Doing.{Doing}
 use Rattle.crossbeam_queue.specs.declared.array_queue.Slotted.{Slotted}
-use Rattle.crossbeam_queue.specs.Passes.{Pass, view, IsSamePass, IsPassOf, ruled_capacity}
+use Rattle.crossbeam_queue.specs.Passes.{Pass, view, IsSamePass}
 use Rattle.samr_link.specs.declared.inbox.View.{View}
 use Rattle.samr_link.specs.Ends.{Making}
-use Rattle.samr_link.specs.Queue.{End, inbox_id, IsRoomy, IsPassIn, IsPost, IsTake, end_of, IsSoundEnd, names_posted, names_taken}
-use Rattle.samr_link.specs.Views.{posts_more, takes_more, spent_view}
+use Rattle.samr_link.specs.Queue.{inbox_id, IsRoomy, IsPost, IsTake, end_of, IsSoundEnd, names_posted}
+use Rattle.samr_link.specs.Views.{posts_more, spent_view}
 use Rattle.samr_stage.specs.declared.label.Name.{Name}
 
 module _ {M Q A : Type 0} where

@@ -1,7 +1,7 @@
 -- The journals that settling leaves.
-use Rattle.std.proofs.Common.{◌≡◌, ℕ, zero, suc, ◌+◌, ◌<◌, ◌≤◌, List, [], ◌∷◌, ◌++◌, length, get_or, map, cond, eqb, sym, refl, ap, ◌∙◌, subst, ⊎_elim, arith, All, Bool, true, false}
+use Rattle.std.proofs.Common.{◌≡◌, ℕ, suc, ◌+◌, ◌<◌, List, [], ◌∷◌, ◌++◌, length, get_or, map, cond, eqb, sym, refl, ap, ◌∙◌, ⊎_elim, arith, All, Bool, true, false}
 use Rattle.std.proofs.lemmas.Bool.{cases_lt}
-use Rattle.std.proofs.lemmas.List.{map-append, length-map, get_or-map, get_or_past, get_or_default}
+use Rattle.std.proofs.lemmas.List.{map-append, get_or-map, get_or_past}
 use Rattle.std.proofs.lemmas.List.Elements.{filter-append}
 use Rattle.samr_link.specs.declared.inbox.View.{View}
 use Rattle.samr_link.specs.Ends.{AreJournals}

@@ -1,15 +1,15 @@
 -- The passes of a making: what is so once they are lent to some ranks, or to one rank for some inboxes.
-use Rattle.std.proofs.Common.{◌≡◌, ℕ, zero, suc, ◌+◌, ◌<◌, ◌≤◌, List, [], ◌∷◌, ◌++◌, length, get_or, set, take, map, sym, refl, ap, ◌∙◌, subst, inl, inr, ⊎_elim, arith, Option}
+use Rattle.std.proofs.Common.{◌≡◌, ℕ, zero, suc, ◌+◌, ◌<◌, ◌≤◌, List, [], ◌∷◌, ◌++◌, length, get_or, set, take, map, sym, refl, ap, ◌∙◌, subst, ⊎_elim, arith, Option}
 use Rattle.std.specs.List.{AllZip}
 use Rattle.std.proofs.lemmas.Bool.{cases_lt}
-use Rattle.std.proofs.lemmas.List.{length-map, get_or-map, get_or_default, get_or-set_same, get_or-set_other, length-set, take_more, take_all, map_push}
+use Rattle.std.proofs.lemmas.List.{length-map, get_or-map, get_or_default, get_or-set_same, get_or-set_other, length-set, take_more, take_all}
 use Rattle.atomic_table.specs.Seated.{TableId}
 use Rattle.crossbeam_queue.specs.declared.array_queue.Doing.{Doing}
 use Rattle.crossbeam_queue.specs.declared.array_queue.Slotted.{Slotted}
 use Rattle.crossbeam_queue.specs.Passes.{Pass, view, IsSamePass}
 use Rattle.samr_link.specs.declared.inbox.View.{View}
 use Rattle.samr_link.specs.Ends.{Making, IsEnd, AreEndsFrom}
-use Rattle.samr_link.specs.Queue.{inbox_id, IsPassIn, IsPost, IsNewPost, IsTake, IsNewTake, kept_view, IsKeeper}
+use Rattle.samr_link.specs.Queue.{inbox_id, IsPassIn, IsNewPost, IsNewTake, kept_view, IsKeeper}
 use Rattle.samr_stage.specs.declared.label.Name.{Name}
 use Rattle.samr_link.specs.Views.{spent_view, fresh, lends, poster, lends_taking, taker}
 use Rattle.samr_link.proofs.Zips.{zip_at, zip_length, zip_push, zip_from}

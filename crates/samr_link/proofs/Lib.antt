@@ -5,3 +5,4 @@ pub mod EndLemmas
 pub mod Lending
 pub mod Returning
 pub mod Journals
+pub mod OddLemmas

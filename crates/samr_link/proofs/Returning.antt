@@ -2,15 +2,14 @@
 use Rattle.std.proofs.Common.{◌≡◌, ◌≢◌, ℕ, zero, suc, ◌+◌, ◌<◌, ◌≤◌, List, [], ◌∷◌, ◌++◌, length, get_or, set, map, sym, refl, ap, ◌∙◌, subst, ⊎_elim, arith, All, Option, true, length-append}
 use Rattle.std.specs.List.{AllZip}
 use Rattle.std.proofs.lemmas.Bool.{cases_lt}
-use Rattle.std.proofs.lemmas.List.{length-map, get_or-map, get_or_default, get_or-set_same, get_or-set_other, length-set, length_push, map_push, map-set, get_or_append_left, get_or_push, get_or_past}
+use Rattle.std.proofs.lemmas.List.{length-map, get_or-map, get_or-set_same, get_or-set_other, length-set, map_push, map-set, get_or_append_left, get_or_push, get_or_past}
 use Rattle.std.proofs.lemmas.Bool.{false≢true}
 use Rattle.atomic_table.specs.Seated.{TableId}
 use Rattle.crossbeam_queue.specs.declared.array_queue.Doing.{Doing}
 use Rattle.crossbeam_queue.specs.declared.array_queue.Slotted.{Slotted}
 use Rattle.crossbeam_queue.specs.Passes.{Pass, view, IsSamePass}
 use Rattle.samr_link.specs.declared.inbox.View.{View}
-use Rattle.samr_link.specs.Inbox.{KeepsAll, IsCompared}
-use Rattle.samr_link.specs.Queue.{End, inbox_id, IsPassIn, IsPost, IsTake, IsKeeper, IsSoundEnd, end_of}
+use Rattle.samr_link.specs.Queue.{End, inbox_id, IsPost, IsKeeper, end_of}
 use Rattle.samr_link.specs.Ends.{Making, IsEnd, AreEndsFrom}
 use Rattle.samr_link.specs.Settled.{view_at, IsBack, IsPosting, IsNext, Knows, HasAll, TookOver, TookBack, AreBack}
 use Rattle.samr_link.specs.Views.{spent_view, takes_over, takes_back}

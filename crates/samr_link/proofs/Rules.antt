@@ -1,6 +1,6 @@
 -- Each kind of step keeps the rule of an inbox.
-use Rattle.std.proofs.Common.{◌≡◌, ◌≢◌, ◌⊎◌, ℕ, ◌+◌, ◌<◌, ◌≤◌, zero, suc, cond, eqb, List, [], ◌∷◌, ◌++◌, length, get_or, set, sym, refl, ap, ◌∙◌, subst, inl, inr, ⊎_elim, append_assoc, Bool, true, false, Option, Some, None, arith, length-append}
-use mathlib.Core.Option.{some, some-injective, some-ne-none}
+use Rattle.std.proofs.Common.{◌≡◌, ◌≢◌, ℕ, ◌<◌, ◌≤◌, cond, eqb, List, [], ◌∷◌, ◌++◌, length, get_or, set, sym, refl, ap, ◌∙◌, subst, ⊎_elim, append_assoc, Bool, true, false, Option, Some, None, arith, length-append}
+use mathlib.Core.Option.{some, some-ne-none}
 use lib.ListN.{get_elem?}
 use Rattle.std.proofs.lemmas.Bool.{false≢true, cases_lt}
 use Rattle.std.proofs.lemmas.List.{get_or_append_left, get_or_push, get_or_past}
@@ -10,7 +10,7 @@ use Rattle.crossbeam_queue.proofs.Lists.{at_set}
 use Rattle.samr_link.specs.declared.inbox.View.{View}
 use Rattle.samr_link.specs.Inbox.{of_sender, Fits, Inboxed, IsSeen, KeepsAll, IsBalanced}
 use Rattle.samr_link.specs.Views.{fresh, spent_view, posts_more, takes_more, lends, poster, lends_taking, taker, takes_over, takes_back}
-use Rattle.samr_link.proofs.Seats.{at_end, Each, each_set, each_end, seat_here, seat_else, seat_either, of_more_here, of_more_else}
+use Rattle.samr_link.proofs.Seats.{Each, each_set, each_end, seat_here, seat_else, seat_either, of_more_here, of_more_else}
 
 some_is : {A : Type 0} {a b : A} → Some a ≡ Some b → a ≡ b
 some_is e = cc

@@ -1,5 +1,5 @@
 -- What an end over queues is, and what the passes of the inboxes know while the ends are out.
-use Rattle.std.specs.Prelude.{◌≡◌, ℕ, ◌<◌, ◌^◌, List, [], ◌∷◌, length, map, All, true, false, slice_index_or}
+use Rattle.std.specs.Prelude.{◌≡◌, ℕ, ◌<◌, List, [], length, map, true, false, slice_index_or}
 use Rattle.std.specs.List.{AllZip}
 use Rattle.atomic_table.specs.Seated.{TableId}
 use Rattle.crossbeam_queue.specs.declared.array_queue.Doing.{Doing}
@@ -8,7 +8,7 @@ use Rattle.crossbeam_queue.specs.Passes.{Pass, view, ruled_capacity}
 use Rattle.std.specs.Prelude.{Option}
 use Rattle.samr_link.specs.declared.inbox.View.{View}
 use Rattle.samr_link.specs.Ends.{Making}
-use Rattle.samr_link.specs.Views.{fresh, spent_view}
+use Rattle.samr_link.specs.Views.{spent_view}
 use Rattle.samr_stage.specs.declared.label.Name.{Name}
 
 -- an end: its rank, its making, what its sender's passes know, in order of addressee, and what its taker's pass knows

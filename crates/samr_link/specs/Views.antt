@@ -1,5 +1,5 @@
 -- What the passes of one inbox know, and how each kind of step changes it.
-use Rattle.std.specs.Prelude.{ℕ, ◌+◌, List, [], ◌∷◌, ◌++◌, true, false}
+use Rattle.std.specs.Prelude.{◌+◌, [], ◌∷◌, ◌++◌, true, false}
 use Rattle.samr_link.specs.declared.inbox.View.{View}
 
 module _ {M : Type 0} where

@@ -1,5 +1,5 @@
 //! A fabric of queues, one for the inbox of each rank.
-ghost use Rattle.std.specs.Prelude.{◌≡◌, ◌<◌, ℕ, [], length, true, not, is_some, unwrap_or};
+ghost use Rattle.std.specs.Prelude.{◌≡◌, ◌<◌, ℕ, [], length, true, not, is_some, unwrap_or, None};
 ghost use Rattle.samr_link.specs.Ends.{AreEnds, AreJournals};
 ghost use Rattle.samr_link.specs.Names.{sent_by, Begins};
 ghost use Rattle.samr_link.specs.Kept.{kept_views};
@@ -26,7 +26,9 @@ pub struct QueueFabric<M: Mail> {
 
 impl<M: Mail> QueueFabric<M> {
     /// A fabric that has made no ends yet.
-    pub fn new() -> Self {
+    pub fn new() -> Self
+        ensures { result ≡ record { desk = None; kept = None } }
+    {
         QueueFabric {
             desk: None,
             kept: None,

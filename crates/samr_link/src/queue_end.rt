@@ -35,7 +35,7 @@ impl<M: Mail> Model for QueueEnd<M> {
 }
 
 impl<M: Mail> QueueEnd<M> {
-    fn post_letter<R: Wait>(&mut self, rt: &R, to: u16, letter: M) -> Result<(), M>
+    pub(crate) fn post_letter<R: Wait>(&mut self, rt: &R, to: u16, letter: M) -> Result<(), M>
         requires to { to < length self.old.making }
         requires sender { (M.name letter).sender ≡ self.old.rank }
         ensures same { (self.new.rank ≡ self.old.rank) × (self.new.making ≡ self.old.making) × (self.new.takes ≡ self.old.takes) }
@@ -49,7 +49,7 @@ impl<M: Mail> QueueEnd<M> {
         push(rt, &inboxes[to], &mut self.posts[to], letter)
     }
 
-    fn take_letter<R: Wait>(&mut self, rt: &R) -> Option<M>
+    pub(crate) fn take_letter<R: Wait>(&mut self, rt: &R) -> Option<M>
         ensures same { (self.new.rank ≡ self.old.rank) × (self.new.making ≡ self.old.making) × (self.new.posts ≡ self.old.posts) }
         ensures taken { IfSome result (λ letter. self.new.takes ≡ takes_more self.old.takes letter) }
         ensures untaken { IfNone result (self.new ≡ self.old) }

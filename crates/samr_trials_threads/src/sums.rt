@@ -2,7 +2,7 @@ ghost use Rattle.std.specs.Prelude.{◌≡◌, ◌+◌, ◌*◌, ◌<◌, ◌≤
 ghost use Rattle.samr_world.specs.World.{IsTeam};
 ghost use Rattle.samr_tree.specs.TreeSum.{AreSummable};
 
-use samr_stage::{Mail, Program};
+use samr_stage::{Machine, Mail, Program, Turn};
 use samr_tree::{SumMail, TreeSum};
 use std::alloc::{AllocError as NoMemory, Global};
 use std::sync::Arc;
@@ -43,4 +43,18 @@ pub fn four(alloc: Global) -> Result<Vec<u64>, NoMemory>
 {
     let values = vec![in alloc; 1, 2, 3, 4]?;
     Ok(values)
+}
+
+/// The first letters of the two ranks that have no children, in the sum of 1, 2, 3 and 4.
+pub fn strangers(alloc: Global) -> Result<Vec<SumMail>, NoMemory> {
+    let run = Arc::new(alloc, four(alloc)?)?;
+    let mut letters = Vec::new(alloc);
+    'ranks: for rank in 2..4 {
+        let program = TreeSum::new(alloc, Arc::try_clone(&run)?, rank)?;
+        let mut machine = Machine::new(alloc, program)?;
+        if let Turn::Posted(letter) = machine.turn(alloc, None, true)? {
+            letters.push(letter)?;
+        }
+    }
+    Ok(letters)
 }

@@ -3,14 +3,15 @@ ghost use Rattle.samr_tree.specs.TreeSum.{AreSummable};
 
 use crate::alarms::Loud;
 use crate::gates::Meeting;
-use crate::sums::{five, four, team, three};
+use crate::sums::{five, four, strangers, team, three};
 use samr_drive::{Alarm, Halt, OpenGate, Stop, drive, run_ranks};
-use samr_link::{Fabric, QueueFabric};
+use samr_link::{Fabric, OddFabric, QueueFabric};
 use samr_stage::Machine;
 use samr_tree::{SumMail, TreeSum};
 use std::alloc::{AllocError as NoMemory, Global};
 use std::sync::{Arc, Wait};
 use std::test::Fail;
+use std::thread::Threads;
 
 /// What the driver of the first rank answers in the sum of these numbers, where no other rank runs.
 fn drive_first<R: Wait, A: Alarm>(
@@ -77,5 +78,28 @@ fn all_ranks_run_at_once(rt: HostRuntime) -> Result<(), Fail> {
     for program in &ended {
         assert_eq!(rt; program.total(), Some(10));
     }
+    Ok(())
+}
+
+/// Whether the sum of 5, 7 and 9 comes to all ranks over ends that are odd after so many letters.
+fn sums_up_oddly<R: Threads + Wait + Sync>(
+    rt: &R,
+    alloc: Global,
+    every: u32,
+) -> Result<bool, NoMemory>
+    requires { 0 < every }
+{
+    let mut fabric = OddFabric::new(strangers(alloc)?, every);
+    let team = team(alloc, three(alloc)?)?;
+    let ended = run_ranks(rt, alloc, team, &mut fabric, &OpenGate)?;
+    Ok(ended.len() == 3 && ended.iter().all(|program| program.total() == Some(21)))
+}
+
+#[test]
+fn odd_letters_do_no_harm(rt: HostRuntime) -> Result<(), Fail> {
+    assert!(rt; sums_up_oddly(&rt, rt.alloc(), 1)?);
+    assert!(rt; sums_up_oddly(&rt, rt.alloc(), 2)?);
+    assert!(rt; sums_up_oddly(&rt, rt.alloc(), 3)?);
+    assert!(rt; sums_up_oddly(&rt, rt.alloc(), 7)?);
     Ok(())
 }

@@ -1,8 +1,8 @@
-use Rattle.std.proofs.Common.{◌≡◌, ◌<◌, length, map, get_or, sym, ap, ◌∙◌, subst, arith, List, ◌+◌, ◌≤◌, set}
-use Rattle.std.proofs.lemmas.List.{length-map, get_or-map}
-use Rattle.crossbeam_queue.specs.Passes.{view, Pass}
+use Rattle.std.proofs.Common.{◌≡◌, ◌<◌, length, map, get_or, sym, ap, subst, arith, List, ◌+◌, ◌≤◌, set}
+use Rattle.std.proofs.lemmas.List.{length-map}
+use Rattle.crossbeam_queue.specs.Passes.{Pass}
 use Rattle.samr_link.specs.declared.inbox.View.{View}
-use Rattle.samr_link.specs.Queue.{inbox_id, IsKeeper, IsNewPost}
+use Rattle.samr_link.specs.Queue.{inbox_id, IsKeeper}
 use Rattle.samr_link.proofs.Lending.{IsLending, lending_none, lending_more, lending_all, lend_step, keeper_here}
 use Rattle.samr_link.proofs.making.lend_posters.Goals as goal
 use Rattle.samr_link.proofs.making.lend_posters.Goals.{After-index_mut}

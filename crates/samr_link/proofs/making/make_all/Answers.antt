@@ -1,4 +1,4 @@
-use Rattle.std.proofs.Common.{◌≡◌, ◌<◌, ◌+◌, ℕ, List, [], ◌∷◌, ◌++◌, length, map, get_or, sym, refl, ap, ◌∙◌, subst, arith, All, true}
+use Rattle.std.proofs.Common.{◌≡◌, ◌<◌, ◌+◌, ℕ, [], ◌∷◌, ◌++◌, length, map, get_or, sym, ap, subst, arith, true}
 use Rattle.std.proofs.lemmas.Iterator.Adapters.{YieldsList-from_vec}
 use Rattle.std.proofs.lemmas.Iterator.Consumers.{YieldsList-turn, YieldsList-end}
 use Rattle.std.proofs.lemmas.List.{length-map, length_push}
@@ -6,8 +6,8 @@ use Rattle.std.proofs.lemmas.List.Elements.{All-push, All-same}
 use Rattle.std.specs.Arc.{arc_value}
 use Rattle.std.specs.List.{AllZip}
 use Rattle.atomic_table.specs.Seated.{TableId}
-use Rattle.samr_link.specs.Ends.{AreEndsFrom, IsFresh}
-use Rattle.samr_link.specs.Queue.{End, IsRoomy, inbox_id, IsKeeper, IsNewTake, names_posted, names_taken}
+use Rattle.samr_link.specs.Ends.{IsFresh}
+use Rattle.samr_link.specs.Queue.{End, inbox_id, IsKeeper, IsNewTake, names_posted, names_taken}
 use Rattle.samr_link.proofs.Lending.{ends_push}
 use Rattle.samr_link.proofs.Zips.{zip_length, zip_at}
 use Rattle.samr_link.proofs.making.make_all.Goals as goal

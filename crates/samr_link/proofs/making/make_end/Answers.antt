@@ -1,8 +1,7 @@
-use Rattle.std.proofs.Common.{◌≡◌, length, map, sym, ap, subst, arith, All, []}
+use Rattle.std.proofs.Common.{map, ap, arith, []}
 use Rattle.std.proofs.lemmas.List.{length-map}
 use Rattle.std.specs.Arc.{arc_value}
-use Rattle.std.specs.List.{AllZip}
-use Rattle.samr_link.specs.Queue.{IsRoomy, inbox_id, IsPost, IsNewPost}
+use Rattle.samr_link.specs.Queue.{inbox_id, IsPost, IsNewPost}
 use Rattle.samr_link.proofs.Lending.{none_posted}
 use Rattle.samr_link.proofs.Zips.{zip_weaker}
 use Rattle.samr_link.proofs.making.make_end.Goals as goal

@@ -1,7 +1,6 @@
-use Rattle.std.proofs.Common.{◌≡◌, List, [], ◌∷◌, ◌++◌, length, map, sym, ap, ◌∙◌, subst, arith, All}
+use Rattle.std.proofs.Common.{◌≡◌, [], ◌∷◌, ◌++◌, length, map, ap, ◌∙◌, arith}
 use Rattle.std.proofs.lemmas.List.{length_push, map_push}
 use Rattle.std.proofs.lemmas.List.Elements.{All-push, All-same}
-use Rattle.std.specs.List.{AllZip}
 use Rattle.samr_link.specs.Queue.{IsRoomy, inbox_id, IsKeeper, IsNewTake}
 use Rattle.samr_link.proofs.Lending.{new_step}
 use Rattle.samr_link.proofs.Zips.{zip_push}

@@ -1,4 +1,4 @@
-use Rattle.std.proofs.Common.{length, map, true, arith, zero-add}
+use Rattle.std.proofs.Common.{map, true, arith, zero-add}
 use Rattle.std.proofs.lemmas.List.{length-map}
 use Rattle.crossbeam_queue.specs.Passes.{view}
 use Rattle.samr_link.specs.Queue.{names_posted, names_taken}

@@ -1,4 +1,4 @@
-use Rattle.std.proofs.Common.{◌≡◌, ◌<◌, ◌≤◌, ◌+◌, ℕ, List, [], ◌∷◌, ◌++◌, length, map, get_or, sym, ap, ◌∙◌, subst, arith, All}
+use Rattle.std.proofs.Common.{◌≡◌, ◌+◌, ℕ, List, [], length, map, sym, ap, ◌∙◌, subst, arith}
 use Rattle.std.proofs.lemmas.Iterator.Adapters.{YieldsList-from_vec}
 use Rattle.std.proofs.lemmas.Iterator.Consumers.{YieldsList-turn, YieldsList-end}
 use Rattle.std.proofs.lemmas.List.{length-map, map-id}
@@ -6,8 +6,8 @@ use Rattle.std.specs.Arc.{arc_value}
 use Rattle.std.specs.List.{AllZip}
 use Rattle.crossbeam_queue.specs.Passes.{view}
 use Rattle.samr_link.specs.Queue.{End, inbox_id, IsKeeper}
-use Rattle.samr_link.specs.Ends.{Making, IsEnd}
-use Rattle.samr_link.specs.Settled.{IsBack, Knows, HasAll, AreBack}
+use Rattle.samr_link.specs.Ends.{IsEnd}
+use Rattle.samr_link.specs.Settled.{IsBack, AreBack}
 use Rattle.samr_link.specs.Views.{spent_view}
 use Rattle.samr_link.proofs.Returning.{back_none, back_more, knows_of, has_all, end_at}
 use Rattle.samr_link.proofs.Zips.{zip_length}

@@ -1,12 +1,11 @@
-use Rattle.std.proofs.Common.{◌≡◌, ◌<◌, ◌≤◌, ℕ, List, length, map, get_or, set, sym, ap, ◌∙◌, subst, ⊎_elim, arith, All}
+use Rattle.std.proofs.Common.{◌≡◌, ◌<◌, ℕ, List, length, map, get_or, sym, ap, ◌∙◌, subst, ⊎_elim, arith}
 use Rattle.std.proofs.lemmas.Bool.{cases_lt}
 use Rattle.std.proofs.lemmas.List.{length-map, get_or-map, get_or_default}
-use Rattle.std.specs.List.{AllZip}
-use Rattle.crossbeam_queue.specs.Passes.{Pass, view}
+use Rattle.crossbeam_queue.specs.Passes.{view}
 use Rattle.samr_link.specs.declared.inbox.View.{View}
 use Rattle.samr_link.specs.Inbox.{KeepsAll, IsCompared}
 use Rattle.samr_link.specs.Queue.{inbox_id}
-use Rattle.samr_link.specs.Settled.{IsBack, HasAll, view_at}
+use Rattle.samr_link.specs.Settled.{IsBack, view_at}
 use Rattle.samr_link.specs.Views.{spent_view}
 use Rattle.samr_link.proofs.EndLemmas.{views_same}
 use Rattle.samr_link.proofs.Returning.{zip_here, back_set, read_view}

@@ -1,4 +1,4 @@
-use Rattle.std.proofs.Common.{◌≡◌, ◌+◌, ◌<◌, ◌≤◌, length, map, get_or, sym, ap, ◌∙◌, subst, arith}
+use Rattle.std.proofs.Common.{◌≡◌, ◌<◌, ◌≤◌, length, map, get_or, sym, ap, ◌∙◌, subst, arith}
 use Rattle.std.proofs.lemmas.Iterator.Adapters.{YieldsList-from_vec}
 use Rattle.std.proofs.lemmas.Iterator.Consumers.{YieldsList-turn, YieldsList-end}
 use Rattle.std.proofs.lemmas.List.{length-map, length_push}
@@ -6,7 +6,7 @@ use Rattle.crossbeam_queue.specs.Passes.{Pass, view}
 use Rattle.samr_link.specs.declared.inbox.View.{View}
 use Rattle.samr_link.specs.Queue.{inbox_id}
 use Rattle.samr_link.specs.Settled.{IsBack, IsPosting, IsNext}
-use Rattle.samr_link.proofs.Returning.{ending_none, ending_more, ending_all, zip_here}
+use Rattle.samr_link.proofs.Returning.{ending_more, ending_all, zip_here}
 use Rattle.samr_link.proofs.Zips.{zip_length, zip_at}
 use Rattle.samr_link.proofs.settling.end_posts.Goals as goal
 use Rattle.samr_link.proofs.settling.end_posts.Goals.{In-Some, After-index_mut}

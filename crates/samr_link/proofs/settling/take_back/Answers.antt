@@ -1,8 +1,6 @@
-use Rattle.std.proofs.Common.{◌≡◌, ◌<◌, List, length, map, get_or, sym, ap, ◌∙◌, subst, arith, All}
+use Rattle.std.proofs.Common.{◌≡◌, ◌<◌, length, map, get_or, sym, ap, ◌∙◌, arith, All}
 use Rattle.std.proofs.lemmas.List.{length-map}
 use Rattle.std.specs.Arc.{arc_value}
-use Rattle.std.specs.List.{AllZip}
-use Rattle.crossbeam_queue.specs.Passes.{Pass, view}
 use Rattle.samr_link.specs.Queue.{inbox_id, IsPost, IsTake}
 use Rattle.samr_link.specs.Settled.{IsBack, Knows}
 use Rattle.samr_link.proofs.Returning.{posting_of, next_of, zip_here, back_set, took_back}

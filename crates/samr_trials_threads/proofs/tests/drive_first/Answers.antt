@@ -1,5 +1,4 @@
-use Rattle.std.proofs.Common.{◌≡◌, ℕ, ◌+◌, ◌<◌, List, length, map, get_or, sym, ap, ◌∙◌, arith, true}
-use Rattle.std.specs.Arc.{arc_value}
+use Rattle.std.proofs.Common.{◌≡◌, ◌<◌, length, sym, ap, ◌∙◌, arith}
 use Rattle.samr_link.proofs.Returning.{end_at}
 use Rattle.samr_stage.proofs.RunLemmas.{ranks-composed}
 use Rattle.samr_tree.specs.TreeSum.{tree_course, tree_fragments}

@@ -1,12 +1,9 @@
-use Rattle.std.proofs.Common.{◌≡◌, ◌<◌, length, map, sym, ap, ◌∙◌, subst, arith, get_or, [], ◌∷◌}
+use Rattle.std.proofs.Common.{◌≡◌, ◌<◌, length, map, sym, ap, ◌∙◌, arith, get_or}
 use Rattle.std.proofs.lemmas.List.{length-map}
 use Rattle.std.proofs.lemmas.Result.{on_ok_weaker, on_err_weaker}
 use Rattle.std.specs.Arc.{arc_value}
-use Rattle.crossbeam_queue.specs.Fifo.{Held}
 use Rattle.crossbeam_queue.specs.Passes.{view}
-use Rattle.samr_link.specs.Inbox.{IsSeen}
-use Rattle.samr_link.specs.Queue.{inbox_id, IsPost, IsRoomy, names_posted, end_of}
-use Rattle.samr_link.specs.Views.{spent_view}
+use Rattle.samr_link.specs.Queue.{inbox_id, IsPost}
 use Rattle.samr_link.proofs.Zips.{zip_length}
 use Rattle.samr_link.proofs.EndLemmas.{post_at, roomy_at, sound_post, names_more, views_same, view_at}
 use Rattle.samr_link.proofs.queue_end.QueueEnd.post_letter.Goals as goal

@@ -1,9 +1,7 @@
-use Rattle.std.proofs.Common.{◌≡◌, ◌<◌, length, map, sym, ap, ◌∙◌, subst, arith, get_or, [], ◌∷◌}
-use Rattle.std.proofs.lemmas.List.{length-map, map-append}
-use Rattle.std.proofs.lemmas.Option.{IfSome_then}
+use Rattle.std.proofs.Common.{◌≡◌, ◌<◌, length, map, ap, ◌∙◌, arith, get_or}
+use Rattle.std.proofs.lemmas.List.{length-map}
 use Rattle.std.specs.Arc.{arc_value}
-use Rattle.crossbeam_queue.specs.Passes.{view}
-use Rattle.samr_link.specs.Queue.{inbox_id, IsTake}
+use Rattle.samr_link.specs.Queue.{inbox_id}
 use Rattle.samr_link.proofs.EndLemmas.{take_at, sound_take}
 use Rattle.samr_link.proofs.queue_end.QueueEnd.take_letter.Goals as goal
 
