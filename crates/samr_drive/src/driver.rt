@@ -1,7 +1,6 @@
 //! The driver of one rank.
 ghost use Rattle.std.specs.Prelude.{◌≡◌, ◌<◌, ◌≤◌, ℕ, true, false, IfOk, OnOk, IfErr};
 ghost use Rattle.samr_drive.specs.Driven.{Fits, IsSame, HasFinished, PostsAll, TakesAll};
-ghost use Rattle.samr_stage.specs.Machine.{IsSound};
 
 use crate::halt::Alarm;
 use crate::step::{Step, step_once};
@@ -30,7 +29,6 @@ pub fn drive<R: Wait, P: Program, L: Link<Mail = P::Mail>, A: Alarm>(
     end: L,
     alarm: &mut A,
 ) -> (Result<P, Stop>, L)
-    requires sound { machine.failed ≡ false → IsSound P.Program P.Mail.Mail machine }
     requires fits { Fits P.Program P.Mail.Mail L.Link machine end }
     ensures same_end { IsSame P.Program P.Mail.Mail L.Link end result.1 }
     ensures finished { IfOk result.0 (HasFinished P.Program P.Mail.Mail L.Link machine) }
@@ -43,6 +41,10 @@ pub fn drive<R: Wait, P: Program, L: Link<Mail = P::Mail>, A: Alarm>(
     let mut machine = machine;
     let mut end = end;
     let mut hand = None;
+    if machine.failed() {
+        alarm.raise();
+        return (Err(Stop::NoMemory), end);
+    }
     let backoff = Backoff::new();
     'turns: for _turn in rt.forever() {
         if alarm.heard() {

@@ -78,6 +78,14 @@ impl<P: Program> Machine<P> {
         self.work.over
     }
 
+    /// Whether a call has answered `NoMemory`. A machine that has not failed is sound, whoever made it.
+    pub fn failed(&self) -> bool
+        ensures value { result ≡ self.now.failed }
+        ensures sound { self.now.failed ≡ false → IsSound P.Program P.Mail.Mail self.now }
+    {
+        self.failed
+    }
+
     /// Whether `turn` with no letter and with room would answer `Idle`.
     pub fn idle(&self) -> bool
         ensures { self.now.failed ≡ false → (IsTrue result ↔ IsIdle P.Program P.Mail.Mail self.now true) }

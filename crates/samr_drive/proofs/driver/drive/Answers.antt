@@ -9,7 +9,7 @@ use Rattle.samr_drive.proofs.driver.drive.Goals.{In-Ok-Over}
 pub turns-init : goal.turns-init
 turns-init g c = record {
   drove = drove_none g.P.Program g.P.Mail.Mail g.L.Link c.args.machine c.args.end None;
-  steady = record { sound = c.requires.sound; fits = c.requires.fits; in_hand = All-nil (CanPost g.P.Mail.Mail g.L.Link c.args.end) };
+  steady = record { sound = c.failed.ensures.sound; fits = c.requires.fits; in_hand = All-nil (CanPost g.P.Mail.Mail g.L.Link c.args.end) };
   count = omega arith;
 }
 
