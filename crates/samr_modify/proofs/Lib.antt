@@ -1,0 +1,12 @@
+pub mod Near
+pub mod Moves
+pub mod Lists
+pub mod EntryLaws
+pub mod RowLaws
+pub mod Ends
+pub mod StageLemmas
+pub mod Lookups
+pub mod AllLemmas
+pub mod PieceLaws
+pub mod Ranges
+pub mod Owning

@@ -1,0 +1,6 @@
+use Rattle.std.proofs.Common.{◌≡◌, take, map}
+use Rattle.samr_modify.specs.Entries.{entry}
+use Rattle.samr_modify.proofs.known.compared.Given as goal
+
+abbrev pub invariant-loop-m : goal.invariant-loop-m
+invariant-loop-m l = l.known.items ≡ map (λ m. entry l.edges m) (take l.m-index l.moves)
