@@ -1,0 +1,16 @@
+pub mod Regions
+pub mod SmallCovers
+pub mod SmallLevels
+pub mod CellScans
+pub mod Marks
+pub mod Spots
+pub mod Shifts
+pub mod Buffering
+pub mod AllMarks
+pub mod TellingLaws
+pub mod AllRanks
+pub mod CornerOrder
+pub mod CoverNear
+pub mod CoverLaws
+pub mod AllCoverRanks
+pub mod CoverWraps

@@ -1,0 +1,24 @@
+use Rattle.std.proofs.Common.{◌∙◌, sym, ap}
+use Rattle.std.specs.Prelude.{Bool, ◌||◌}
+use Rattle.samr_box.specs.Corners.{Corners, met}
+use Rattle.samr_sign.specs.Fields.{tagged}
+use Rattle.samr_tags.specs.Seeing.{spread}
+use Rattle.samr_tags.proofs.Marks.{met_cells, met_inside, met_none}
+use Rattle.samr_tags.proofs.marking.mark_cell.Goals as goal
+
+pub mark-requires : goal.mark-requires
+mark-requires c =
+    let r = spread c.args.frame.now c.args.buffer c.args.s c.args.cell in
+    met_inside c.args.field.now.bx r c.in-Some.region (ap (λ (b : Corners). met b r) (sym c.bx.ensures.value) ∙ sym c.spread_region.ensures ∙ c.in-Some.is)
+
+pub returns-in-Some-clause-cells : goal.returns-in-Some-clause-cells
+returns-in-Some-clause-cells c = λ x.
+    let r = spread c.args.frame.now c.args.buffer c.args.s c.args.cell in
+    let is = ap (λ (b : Corners). met b r) (sym c.bx.ensures.value) ∙ sym c.spread_region.ensures ∙ c.in-Some.is in
+    c.mark.ensures.cells x ∙ ap (λ (v : Bool). v || tagged c.args.field.now x) (met_cells c.args.field.now.bx r c.in-Some.region is x)
+
+pub returns-in_default-clause-cells : goal.returns-in_default-clause-cells
+returns-in_default-clause-cells c = λ x.
+    let r = spread c.args.frame.now c.args.buffer c.args.s c.args.cell in
+    let is = ap (λ (b : Corners). met b r) (sym c.bx.ensures.value) ∙ sym c.spread_region.ensures ∙ c.in_default.is in
+    sym (ap (λ (v : Bool). v || tagged c.args.field.now x) (met_none c.args.field.now.bx r is x))

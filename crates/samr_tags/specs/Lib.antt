@@ -1,0 +1,9 @@
+pub mod Tagging
+pub mod Seeing
+pub mod Marking
+pub mod Telling
+pub mod Covering
+pub mod Covers
+pub mod Rooms
+pub mod AllCovers
+pub mod StageLaws
