@@ -1,0 +1,11 @@
+pub mod Nodes
+pub mod Covering
+pub mod Open
+pub mod Lists
+pub mod NearLaws
+pub mod Adding
+pub mod OwnerLaws
+pub mod Searching
+pub mod DirectedRoots
+pub mod LevelLaws
+pub mod OwnerCounts
