@@ -1,0 +1,11 @@
+pub mod ListLaws
+pub mod NodeLaws
+pub mod JoinLaws
+pub mod OverlapLaws
+pub mod EdgeStage
+pub mod AllLaws
+pub mod SomeRowLaws
+pub mod DecideLaws
+pub mod DecideStage
+pub mod RoundLaws
+pub mod AskedLaws

@@ -1,0 +1,10 @@
+pub mod Clustering
+pub mod Accepting
+pub mod EdgeRows
+pub mod EdgeParts
+pub mod SomeRows
+pub mod Rounds
+pub mod Verdicts
+pub mod DecideParts
+pub mod StageLaws
+pub mod Laws

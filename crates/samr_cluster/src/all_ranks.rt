@@ -1,0 +1,99 @@
+ghost use Rattle.std.specs.Prelude.{◌≡◌, ◌<◌, ◌^◌, IfOk, length};
+ghost use Rattle.samr_box.specs.Vector.{InRange};
+ghost use Rattle.samr_box.specs.Space.{IsSpace, finer};
+ghost use Rattle.samr_stage.specs.Exchange.{AreResults};
+ghost use Rattle.samr_cluster.specs.Clustering.{Clustering};
+ghost use Rattle.samr_cluster.specs.EdgeRows.{cluster_pair};
+ghost use Rattle.samr_cluster.specs.EdgeParts.{HaveAllAccepted};
+ghost use Rattle.samr_cluster.specs.Rounds.{Round};
+ghost use Rattle.samr_cluster.specs.DecideParts.{HaveAllReported, decided_state};
+
+use crate::accepted::Accepted;
+use crate::decide::Decide;
+use crate::edges::Edges;
+use crate::nodes::{Decided, Reported};
+use samr_box::{Domain, IBox, IVec, Listed, Ratio};
+use samr_level::Pair;
+use samr_sign::CutRule;
+use samr_stage::exchange;
+use std::alloc::{AllocError as NoMemory, Global};
+
+/// The overlaps of a level and its clusters on all ranks, on one thread: from the boxes of each rank
+/// and the accepted boxes whose nodes it is near, in order of rank, to its pair of level and clusters.
+/// `d` is the frame of level 0, `to_level` the ratio from there to the level, and `width` is in cells
+/// of the level.
+///
+/// # Errors
+///
+/// Where memory is short.
+pub fn edges_all(
+    alloc: Global,
+    d: &Domain,
+    boxes: &[Listed<IBox>],
+    accepted: &[Listed<Accepted>],
+    width: IVec,
+    to_level: Ratio,
+) -> Result<Vec<Pair>, NoMemory>
+    requires width { InRange width }
+    requires frame { IsSpace (finer d.now to_level) }
+    requires few { length boxes.now < 2 ^ 16 }
+    requires same { length boxes.now ≡ length accepted.now }
+    requires parts { (w : Clustering) × HaveAllAccepted d.now boxes.now accepted.now width to_level w }
+    ensures len { IfOk result (λ pairs. length pairs.items ≡ length boxes.now) }
+    ensures pairs { IfOk result (λ pairs. (w : Clustering) → HaveAllAccepted d.now boxes.now accepted.now width to_level w
+        → AreResults (λ w rank out. out ≡ cluster_pair w rank) w pairs.items) }
+{
+    let ranks = boxes.len() as u16;
+    let mut stages = Vec::new(alloc);
+    'each: for rank in 0..ranks {
+        let place = usize::from(rank);
+        stages.push(Edges::start(
+            alloc,
+            rank,
+            ranks,
+            d,
+            boxes[place].as_slice(),
+            accepted[place].as_slice(),
+            width,
+            to_level,
+        )?)?;
+    }
+    let pairs = exchange(alloc, stages)?;
+    Ok(pairs)
+}
+
+/// A number as a rank.
+fn as_rank(number: usize) -> u16
+    requires { number < 2 ^ 16 }
+    ensures { result ≡ number }
+{
+    number as u16
+}
+
+/// A round's decisions on all ranks, on one thread: from what each rank has once all have reported, in
+/// order of rank, to what it has once all have decided.
+///
+/// # Errors
+///
+/// Where memory is short.
+pub fn decide_all(
+    alloc: Global,
+    d: &Domain,
+    reported: Vec<Reported>,
+    rule: CutRule,
+) -> Result<Vec<Decided>, NoMemory>
+    requires few { length reported.items < 2 ^ 16 }
+    requires parts { (x : Round) × HaveAllReported reported.items rule x }
+    ensures len { IfOk result (λ outs. length outs.items ≡ length reported.items) }
+    ensures decided { IfOk result (λ outs. (x : Round) → HaveAllReported reported.items rule x
+        → AreResults (λ x rank out. out ≡ decided_state x rank) x outs.items) }
+{
+    let ranks = reported.len() as u16;
+    let mut stages = Vec::new(alloc);
+    'each: for v in reported {
+        let rank = as_rank(stages.len());
+        stages.push(Decide::start(alloc, rank, ranks, d, v, rule)?)?;
+    }
+    let outs = exchange(alloc, stages)?;
+    Ok(outs)
+}

@@ -1,0 +1,28 @@
+//! The clustering on any number of ranks.
+//!
+//! No rank holds the tags, the roots' parts or the clusters. The ranks that are near a node count their
+//! tags in it, its director decides on the sum, and the box that is accepted of it belongs to the rank
+//! with most tags in it. In the end the ranks near a box's node tell the box's owner of the overlaps.
+#![tactic(auto)]
+
+mod accepted;
+mod all_ranks;
+mod connectors;
+mod decide;
+mod edges;
+mod laws;
+mod nodes;
+mod peers;
+mod telling;
+mod verdict;
+
+pub use accepted::Accepted;
+pub use all_ranks::{decide_all, edges_all};
+pub use decide::Decide;
+pub use edges::Edges;
+pub use laws::{rounds_tell_the_accepted, the_asked_were_told};
+pub use nodes::{Counted, Decided, Directed, Reported, Told};
+pub use verdict::Verdict;
+
+#[cfg(test)]
+mod tests;
