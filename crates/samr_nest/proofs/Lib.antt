@@ -1,0 +1,13 @@
+pub mod NearParts
+pub mod Subtracting
+pub mod Moved
+pub mod StartLaws
+pub mod EdgeImages
+pub mod ChopSizes
+pub mod NestedBy
+pub mod StayLaws
+pub mod LeftLaws
+pub mod NewLaws
+pub mod CutLaws
+pub mod Callers
+pub mod RowProofs

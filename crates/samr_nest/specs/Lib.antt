@@ -1,0 +1,4 @@
+pub mod Starts
+pub mod Nested
+pub mod Rows
+pub mod Laws
