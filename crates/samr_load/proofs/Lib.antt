@@ -1,0 +1,16 @@
+pub mod Totals
+pub mod QuotaSums
+pub mod Flows
+pub mod Parting
+pub mod Sorts
+pub mod PieceOrder
+pub mod TakeSteps
+pub mod Ascents
+pub mod Descents
+pub mod Shapes
+pub mod Takes
+pub mod Keeping
+pub mod Bound
+pub mod Wholes
+pub mod PlainSteps
+pub mod BalancedLevels

@@ -1,0 +1,46 @@
+ghost use Rattle.std.specs.Prelude.{◌≡◌, ◌<◌, ◌^◌, pos, ◌≤ℤ◌, unsigned_abs, IfOk};
+ghost use Rattle.samr_load.specs.Pieces.{load};
+ghost use Rattle.samr_load.specs.Descent.{fall};
+
+use crate::pieces::Piece;
+use crate::taking::{Taken, take};
+use std::alloc::{AllocError as NoMemory, Global};
+
+/// What a rank gives its children on the way down, and what is left.
+#[derive(Debug, Drop)]
+pub struct Fallen {
+    pub first: Vec<Piece>,
+    pub second: Vec<Piece>,
+    pub left: Vec<Piece>,
+}
+
+/// A rank's step on the way down the tree. `hand` has what it kept and what its parent gave it, and
+/// `first` and `second` are what its children need.
+///
+/// # Errors
+///
+/// Where memory is short.
+pub fn fall(
+    alloc: Global,
+    hand: Vec<Piece>,
+    smallest: i64,
+    first: u64,
+    second: u64,
+) -> Result<Fallen, NoMemory>
+    requires smallest { pos 1 ≤ℤ smallest }
+    requires fits { load hand.items < 2 ^ 63 }
+    ensures first { IfOk result (λ f. f.first.items ≡ (fall (unsigned_abs smallest) hand.items first second).first) }
+    ensures second { IfOk result (λ f. f.second.items ≡ (fall (unsigned_abs smallest) hand.items first second).second) }
+    ensures left { IfOk result (λ f. f.left.items ≡ (fall (unsigned_abs smallest) hand.items first second).left) }
+{
+    let Taken { taken, rest } = take(alloc, hand, smallest, first)?;
+    let Taken {
+        taken: other,
+        rest: left,
+    } = take(alloc, rest, smallest, second)?;
+    Ok(Fallen {
+        first: taken,
+        second: other,
+        left,
+    })
+}
