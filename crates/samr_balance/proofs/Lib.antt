@@ -1,0 +1,12 @@
+pub mod FamilyLines
+pub mod RoundHands
+pub mod UpLemmas
+pub mod DownLemmas
+pub mod Counts
+pub mod LineSums
+pub mod CuttingOrder
+pub mod HomeRows
+pub mod HomeEnds
+pub mod AllLemmas
+pub mod HomeLaws
+pub mod HomeTold
