@@ -15,7 +15,7 @@ use Rattle.samr_shape.specs.declared.shape.Shape.{Shape}
 use Rattle.samr_shape.specs.declared.shape.Shape.TheVariants.{Slab, Ball}
 use Rattle.toml.specs.Data.{Data, Members, get_member, as_integer}
 use Rattle.samr_problem.specs.declared.context.Document.{Document}
-use Rattle.samr_problem.specs.declared.field.Border.{Border}
+use Rattle.samr_ops.specs.declared.rules.Border.{Border}
 use Rattle.samr_problem.specs.declared.field.Field.{Field}
 use Rattle.samr_problem.specs.declared.field.Init.{Init}
 use Rattle.samr_problem.specs.declared.probe.Probe.{Probe}

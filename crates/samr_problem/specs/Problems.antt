@@ -10,7 +10,7 @@ use Rattle.samr_shape.specs.declared.shape.Shape.TheVariants.{Slab, Ball}
 use Rattle.samr_problem.specs.declared.lengths.Lengths.{Lengths}
 use Rattle.samr_ops.specs.declared.rules.Rule.{Rule}
 use Rattle.samr_ops.specs.declared.rules.Rule.TheVariants.{Fixed, Clamp, Reflect}
-use Rattle.samr_problem.specs.declared.field.Border.{Border}
+use Rattle.samr_ops.specs.declared.rules.Border.{Border}
 use Rattle.samr_problem.specs.declared.field.Field.{Field}
 use Rattle.samr_problem.specs.declared.field.Init.{Init}
 use Rattle.samr_problem.specs.declared.probe.Probe.{Probe}

@@ -6,7 +6,7 @@ use crate::lookup::{
     entry_number, entry_of, is_text, number_at, value_at, vector_at, vector_from, word,
 };
 use samr_box::IVec;
-use samr_ops::{CoarsenRule, RefineRule, Rule};
+use samr_ops::{Border, CoarsenRule, RefineRule, Rule};
 use toml::{Table, Value};
 
 /// The first values of a field: at a cell of level 0, `first` plus each slope times the cell's
@@ -17,14 +17,6 @@ pub struct Init {
     pub i: u32,
     pub j: u32,
     pub k: u32,
-}
-
-/// What stands beyond the physical borders of each axis.
-#[derive(Clone, Copy, Debug, PartialEq, Eq)]
-pub struct Border {
-    pub i: Rule,
-    pub j: Rule,
-    pub k: Rule,
 }
 
 /// A field: a value in each cell of each level.

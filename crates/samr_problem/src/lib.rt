@@ -23,7 +23,7 @@ mod types;
 mod walk;
 mod width;
 
-pub use field::{Border, Field, Init};
+pub use field::{Field, Init};
 pub use probe::Probe;
 pub use problem::Problem;
 pub use read::read_problem;

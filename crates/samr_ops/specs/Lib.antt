@@ -1,0 +1,5 @@
+pub mod Rules
+pub mod Walks
+pub mod Kept
+pub mod Laws
+pub mod Rows
