@@ -7,6 +7,8 @@ mod alarms;
 #[cfg(test)]
 mod gates;
 #[cfg(test)]
+mod relays;
+#[cfg(test)]
 mod sums;
 #[cfg(test)]
 mod tests;

@@ -3,9 +3,11 @@ ghost use Rattle.samr_tree.specs.TreeSum.{AreSummable};
 
 use crate::alarms::Loud;
 use crate::gates::Meeting;
+use crate::relays::{FLOOD, relay_team, ring_letters, totals};
 use crate::sums::{five, four, strangers, team, three};
 use samr_drive::{Alarm, Halt, OpenGate, Stop, drive, run_ranks};
 use samr_link::{Fabric, OddFabric, QueueFabric};
+use samr_relay::RelayMail;
 use samr_stage::Machine;
 use samr_tree::{SumMail, TreeSum};
 use std::alloc::{AllocError as NoMemory, Global};
@@ -101,5 +103,35 @@ fn odd_letters_do_no_harm(rt: HostRuntime) -> Result<(), Fail> {
     assert!(rt; sums_up_oddly(&rt, rt.alloc(), 2)?);
     assert!(rt; sums_up_oddly(&rt, rt.alloc(), 3)?);
     assert!(rt; sums_up_oddly(&rt, rt.alloc(), 7)?);
+    Ok(())
+}
+
+/// What each of six ranks is told by the other five, 700 numbers each: of the numbers from 1 to
+/// 4200, whose sum is 8,822,100, all but the 700 that it tells others, whose sum is 245,350
+/// for the first rank and 490,000 more for each rank after it.
+const TOLD: [Option<u64>; 6] = [
+    Some(8_576_750),
+    Some(8_086_750),
+    Some(7_596_750),
+    Some(7_106_750),
+    Some(6_616_750),
+    Some(6_126_750),
+];
+
+#[test]
+fn more_letters_than_an_inbox_holds(rt: HostRuntime) -> Result<(), Fail> {
+    let mut fabric = QueueFabric::<RelayMail>::new();
+    let team = relay_team(rt.alloc(), FLOOD)?;
+    let ended = run_ranks(&rt, rt.alloc(), team, &mut fabric, &OpenGate)?;
+    assert!(rt; totals(rt.alloc(), ended)?.as_slice() == TOLD.as_slice());
+    Ok(())
+}
+
+#[test]
+fn many_letters_come_oddly(rt: HostRuntime) -> Result<(), Fail> {
+    let mut fabric = OddFabric::new(ring_letters(rt.alloc())?, 3);
+    let team = relay_team(rt.alloc(), FLOOD)?;
+    let ended = run_ranks(&rt, rt.alloc(), team, &mut fabric, &OpenGate)?;
+    assert!(rt; totals(rt.alloc(), ended)?.as_slice() == TOLD.as_slice());
     Ok(())
 }

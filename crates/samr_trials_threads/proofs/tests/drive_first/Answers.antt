@@ -4,9 +4,9 @@ use Rattle.samr_stage.proofs.RunLemmas.{ranks-composed}
 use Rattle.samr_tree.specs.TreeSum.{tree_course, tree_fragments}
 use Rattle.samr_trials_threads.proofs.tests.drive_first.Goals as goal
 
-pub drive-answer-requires-clause-fits : goal.drive-answer-requires-clause-fits
+pub drive-answer-requires : goal.drive-answer-requires
 unfolding tree_course
-drive-answer-requires-clause-fits g c =
+drive-answer-requires g c =
     let ends = c.in_ok-ends.ends.items in
     let made = c.in_ok-ends.ensures.ends in
     let value = c.swap_remove-end.ensures.value in
@@ -16,8 +16,10 @@ drive-answer-requires-clause-fits g c =
     let few : c.len-ranks.result ≡ length c.args.values.items = omega (arith, c.args.values.ok.0, c.len-ranks.ensures) in
     let run = begins.same_run ∙ (c.in_ok-new.ensures.run ∙ ap (λ v. v.items) c.in_ok-run.ensures.ok) in
     record {
-      rank = ap (λ e. e.rank) value ∙ (end.is_rank ∙ sym (begins.same_rank ∙ c.in_ok-new.ensures.rank));
-      ends = ap (λ e. length e.making) value
-          ∙ (end.is_ends
-          ∙ (sym made.count ∙ (c.in_ok-ends.ensures.count ∙ (few ∙ sym (ap (λ v. (tree_course v).ranks) run ∙ ranks-composed (length c.args.values.items) (tree_fragments c.args.values.items))))));
+      fits = record {
+        rank = ap (λ e. e.rank) value ∙ (end.is_rank ∙ sym (begins.same_rank ∙ c.in_ok-new.ensures.rank));
+        ends = ap (λ e. length e.making) value
+            ∙ (end.is_ends
+            ∙ (sym made.count ∙ (c.in_ok-ends.ensures.count ∙ (few ∙ sym (ap (λ v. (tree_course v).ranks) run ∙ ranks-composed (length c.args.values.items) (tree_fragments c.args.values.items))))));
+      };
     }
