@@ -1,0 +1,29 @@
+//! Benchmarks. Each prints ratios within one run: how its time grows with its work, or what threads
+//! take against one. Without a word the program names them.
+#![tactic(auto)]
+
+mod bridging;
+mod racing;
+mod report;
+mod stopwatch;
+mod teams;
+
+use std::{env, io};
+
+fn main(rt: HostRuntime) -> io::Result<()> {
+    let alloc = rt.alloc();
+    let mut words = env::args(&rt)?.skip(1);
+    let Some(word) = words.next() else {
+        println!(rt; "bridge")?;
+        println!(rt; "threads")?;
+        return Ok(());
+    };
+    if word.as_str() == "bridge" {
+        return bridging::print(&rt, alloc);
+    }
+    if word.as_str() == "threads" {
+        return racing::print(&rt, alloc);
+    }
+    println!(rt; "no such benchmark")?;
+    Ok(())
+}
