@@ -14,14 +14,15 @@ use std::thread;
 
 /// Takes a rank's machine through its run by the rank's end, and hands the end back: it gives the
 /// machine what comes, and posts what the machine gives out. A letter for which there was no room
-/// stays in its hand, and it goes on taking. Between tries it pauses.
+/// stays in its hand, and it goes on taking. Between tries it lets others go on, and with an empty
+/// hand it soon rests until a letter may have come.
 ///
 /// It answers the program once that has left all its labels and no letter is left in its hand.
 ///
 /// # Errors
 ///
-/// `NoMemory` where the machine found no memory, and then it has raised the alarm; `Halted` where
-/// it heard the alarm of another driver.
+/// `NoMemory` where the machine found no memory, and then it has raised the alarm and roused all
+/// ends; `Halted` where it heard the alarm of another driver.
 pub fn drive<R: Wait, P: Program, L: Link<Mail = P::Mail>, A: Alarm>(
     rt: &R,
     alloc: Global,
@@ -43,6 +44,7 @@ pub fn drive<R: Wait, P: Program, L: Link<Mail = P::Mail>, A: Alarm>(
     let mut hand = None;
     if machine.failed() {
         alarm.raise();
+        end.rouse();
         return (Err(Stop::NoMemory), end);
     }
     let backoff = Backoff::new();
@@ -57,16 +59,27 @@ pub fn drive<R: Wait, P: Program, L: Link<Mail = P::Mail>, A: Alarm>(
             }
             Ok(Step::Waits(left)) => {
                 hand = left;
-                pause(&backoff);
+                wait(rt, &end, hand.is_none(), &backoff);
             }
             Ok(Step::Over) => return (Ok(machine.into_program()), end),
             Err(NoMemory) => {
                 alarm.raise();
+                end.rouse();
                 return (Err(Stop::NoMemory), end);
             }
         }
     }
     unreachable!()
+}
+
+/// Lets others go on, and after some rounds rests until a letter may have come. With a letter in
+/// hand it never rests, since nobody tells when its addressee has room.
+fn wait<R: Wait, L: Link>(rt: &R, end: &L, empty_handed: bool, backoff: &Backoff) {
+    if backoff.is_completed() && empty_handed {
+        end.rest(rt);
+    } else {
+        pause(backoff);
+    }
 }
 
 /// Lets others go on.

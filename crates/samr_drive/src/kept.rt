@@ -131,6 +131,7 @@ fn turn_kept<R: Wait, P: Program, L: Link<Mail = P::Mail>>(
         Ok(Step::Over) => Slot::Over(Ok(machine.into_program()), end),
         Err(NoMemory) => {
             bell.raise();
+            end.rouse();
             Slot::Over(Err(Stop::NoMemory), end)
         }
     }

@@ -12,6 +12,7 @@ mod odd_end;
 mod queue;
 mod queue_end;
 mod settling;
+mod sleepers;
 #[cfg(test)]
 mod tests;
 

@@ -8,6 +8,7 @@ ghost use Rattle.samr_stage.specs.declared.label.Name.{Name};
 use crate::inbox::ROOM;
 use samr_stage::Mail;
 use std::sync::Wait;
+use std::thread;
 
 /// The end of one rank, by which it posts letters into the inboxes of the ranks of its run, its own
 /// too, and takes letters from its own inbox. An inbox holds at most `ROOM` letters.
@@ -61,6 +62,17 @@ pub trait Link: Drop {
         ensures taken { IfSome result (λ letter. tells_taken self.old ≡ true → taken self.new ≡ taken self.old ++ Self.Mail.name letter ∷ []) }
         ensures untaken { IfNone result (tells_taken self.old ≡ true → taken self.new ≡ taken self.old) }
         ensures empty { IfNone result (Held 0 (sees_own self.old)) };
+
+    /// Waits until a letter may have come to the own inbox, or an end of the same making has roused
+    /// all. It may return sooner.
+    ///
+    /// Where an end cannot tell when a letter comes it lets others go on, and returns.
+    fn rest<R: Wait>(&self, _rt: &R) {
+        thread::yield_now();
+    }
+
+    /// Ends the rests of all ends of the same making, now and from now on.
+    fn rouse(&self) {}
 
     ghost tells_both: { (end : Self) → tells_taken end ≡ true → tells_posted end ≡ true };
 }

@@ -8,6 +8,7 @@ ghost use Rattle.samr_link.specs.Queue.{IsRoomy, inbox_id, IsKeeper, IsNewPost, 
 
 use crate::inbox::{Inbox, InboxPass, lend_poster, lend_taker, make};
 use crate::queue_end::QueueEnd;
+use crate::sleepers::Sleepers;
 use samr_stage::Mail;
 use std::alloc::{AllocError as NoMemory, Global};
 use std::marker::Model;
@@ -55,10 +56,11 @@ pub fn make_all<M: Mail>(alloc: Global, ranks: u16) -> Result<(Desk<M>, Vec<Queu
         takers,
     } = make_inboxes(alloc, ranks)?;
     let inboxes = Arc::new(alloc, inboxes)?;
+    let sleepers = Arc::new(alloc, Sleepers::new(alloc, ranks)?)?;
     let mut ends = Vec::new(alloc);
     let mut rank = 0;
     'ranks: for takes in takers {
-        ends.push(make_end(alloc, rank, &inboxes, &mut keepers, takes)?)?;
+        ends.push(make_end(alloc, rank, &inboxes, &sleepers, &mut keepers, takes)?)?;
         rank += 1;
     }
     Ok((Desk { inboxes, keepers }, ends))
@@ -92,6 +94,7 @@ fn make_end<M: Mail>(
     alloc: Global,
     rank: u16,
     inboxes: &Arc<Vec<Inbox<M>>>,
+    sleepers: &Arc<Sleepers>,
     keepers: &mut Vec<InboxPass<M>>,
     takes: InboxPass<M>,
 ) -> Result<QueueEnd<M>, NoMemory>
@@ -105,10 +108,12 @@ fn make_end<M: Mail>(
     ensures fresh { IfOk result (λ end. IsFresh (λ e. true) (λ e. true) (names_posted M.name) (names_taken M.name) end) }
 {
     let theirs = Arc::try_clone(inboxes)?;
+    let sleepers = Arc::try_clone(sleepers)?;
     let posts = lend_posters(alloc, rank, &theirs, keepers)?;
     Ok(QueueEnd {
         rank,
         inboxes: theirs,
+        sleepers,
         posts,
         takes,
     })

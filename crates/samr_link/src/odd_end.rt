@@ -132,5 +132,9 @@ impl<M: Mail> Link for OddEnd<M> {
         self.take_any(rt)
     }
 
+    fn rouse(&self) {
+        self.end.rouse_all();
+    }
+
     ghost tells_both = { λ e told. refl };
 }

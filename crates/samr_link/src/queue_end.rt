@@ -7,6 +7,7 @@ ghost use Rattle.samr_link.specs.Views.{spent_view, takes_more};
 
 use crate::inbox::{Inbox, InboxPass, ROOM, pop, push};
 use crate::link::Link;
+use crate::sleepers::Sleepers;
 use samr_stage::Mail;
 use std::marker::Model;
 use std::sync::{Arc, Wait};
@@ -18,6 +19,7 @@ use std::sync::{Arc, Wait};
 pub struct QueueEnd<M: Mail> {
     pub(crate) rank: u16,
     pub(crate) inboxes: Arc<Vec<Inbox<M>>>,
+    pub(crate) sleepers: Arc<Sleepers>,
     pub(crate) posts: Vec<InboxPass<M>>,
     pub(crate) takes: InboxPass<M>,
 }
@@ -35,7 +37,7 @@ impl<M: Mail> Model for QueueEnd<M> {
 }
 
 impl<M: Mail> QueueEnd<M> {
-    pub(crate) fn post_letter<R: Wait>(&mut self, rt: &R, to: u16, letter: M) -> Result<(), M>
+    fn push_letter<R: Wait>(&mut self, rt: &R, to: u16, letter: M) -> Result<(), M>
         requires to { to < length self.old.making }
         requires sender { (M.name letter).sender ≡ self.old.rank }
         ensures same { (self.new.rank ≡ self.old.rank) × (self.new.making ≡ self.old.making) × (self.new.takes ≡ self.old.takes) }
@@ -49,7 +51,7 @@ impl<M: Mail> QueueEnd<M> {
         push(rt, &inboxes[to], &mut self.posts[to], letter)
     }
 
-    pub(crate) fn take_letter<R: Wait>(&mut self, rt: &R) -> Option<M>
+    fn pop_letter<R: Wait>(&mut self, rt: &R) -> Option<M>
         ensures same { (self.new.rank ≡ self.old.rank) × (self.new.making ≡ self.old.making) × (self.new.posts ≡ self.old.posts) }
         ensures taken { IfSome result (λ letter. self.new.takes ≡ takes_more self.old.takes letter) }
         ensures untaken { IfNone result (self.new ≡ self.old) }
@@ -57,6 +59,39 @@ impl<M: Mail> QueueEnd<M> {
     {
         let inboxes: &Vec<Inbox<M>> = &self.inboxes;
         pop(rt, &inboxes[usize::from(self.rank)], &mut self.takes)
+    }
+
+    pub(crate) fn post_letter<R: Wait>(&mut self, rt: &R, to: u16, letter: M) -> Result<(), M>
+        requires to { to < length self.old.making }
+        requires sender { (M.name letter).sender ≡ self.old.rank }
+        ensures same { (self.new.rank ≡ self.old.rank) × (self.new.making ≡ self.old.making) × (self.new.takes ≡ self.old.takes) }
+        ensures posted { OnOk result ((a : ℕ) → names_posted M.name self.new a ≡ names_posted M.name self.old a ++ (if to == a then M.name letter ∷ [] else [])) }
+        ensures back { IfErr result (λ back. back ≡ letter) }
+        ensures unposted { OnErr result (self.new ≡ self.old) }
+        ensures full { OnErr result (Held ROOM (IsSeen (λ x. (M.name x).sender) (slice_index_or self.old.posts to spent_view))) }
+    {
+        let posted = self.push_letter(rt, to, letter);
+        if posted.is_ok() {
+            self.sleepers.posted(to);
+        }
+        posted
+    }
+
+    pub(crate) fn take_letter<R: Wait>(&mut self, rt: &R) -> Option<M>
+        ensures same { (self.new.rank ≡ self.old.rank) × (self.new.making ≡ self.old.making) × (self.new.posts ≡ self.old.posts) }
+        ensures taken { IfSome result (λ letter. self.new.takes ≡ takes_more self.old.takes letter) }
+        ensures untaken { IfNone result (self.new ≡ self.old) }
+        ensures empty { IfNone result (Held 0 (IsSeen (λ x. (M.name x).sender) self.old.takes)) }
+    {
+        let taken = self.pop_letter(rt);
+        if taken.is_some() {
+            self.sleepers.taken(self.rank);
+        }
+        taken
+    }
+
+    pub(crate) fn rouse_all(&self) {
+        self.sleepers.rouse();
     }
 }
 
@@ -92,6 +127,14 @@ impl<M: Mail> Link for QueueEnd<M> {
 
     fn take<R: Wait>(&mut self, rt: &R) -> Option<M> {
         self.take_letter(rt)
+    }
+
+    fn rest<R: Wait>(&self, rt: &R) {
+        self.sleepers.rest(rt, self.rank);
+    }
+
+    fn rouse(&self) {
+        self.rouse_all();
     }
 
     ghost tells_both = { λ e told. refl };

@@ -42,10 +42,11 @@ fn take_back<M: Mail>(inboxes: &Vec<Inbox<M>>, keepers: &mut Vec<InboxPass<M>>, 
     let QueueEnd {
         rank,
         inboxes: theirs,
+        sleepers,
         posts,
         takes,
     } = end;
-    drop(theirs);
+    drop((theirs, sleepers));
     end_posts(inboxes, keepers, posts);
     let own = usize::from(rank);
     end_taker(&inboxes[own], &mut keepers[own], takes);

@@ -89,3 +89,30 @@ fn full_inbox_gives_letters_back(rt: HostRuntime) -> Result<(), Fail> {
     assert_eq!(rt; first.number, 0);
     Ok(())
 }
+
+#[test]
+fn no_rest_where_a_letter_is(rt: HostRuntime) -> Result<(), Fail> {
+    let mut fabric = QueueFabric::<Told>::new();
+    let mut ends = fabric.make_ends(rt.alloc(), 2)?;
+    assert!(rt; first_back(&rt, &mut ends[0], 2).is_none());
+    ends[1].rest(&rt);
+    ends[1].rest(&rt);
+    let Some(first) = ends[1].take(&rt) else {
+        return Err("no letter was there".into());
+    };
+    assert_eq!(rt; first.number, 0);
+    ends[1].rest(&rt);
+    Ok(())
+}
+
+#[test]
+fn no_rest_where_all_are_roused(rt: HostRuntime) -> Result<(), Fail> {
+    let mut fabric = QueueFabric::<Told>::new();
+    let mut ends = fabric.make_ends(rt.alloc(), 2)?;
+    ends[1].rouse();
+    ends[0].rest(&rt);
+    ends[1].rest(&rt);
+    assert!(rt; ends[1].take(&rt).is_none());
+    ends[1].rest(&rt);
+    Ok(())
+}

@@ -5,6 +5,8 @@
 #[cfg(test)]
 mod alarms;
 #[cfg(test)]
+mod breaking;
+#[cfg(test)]
 mod gates;
 #[cfg(test)]
 mod relays;

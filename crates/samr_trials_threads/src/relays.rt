@@ -21,6 +21,13 @@ const RING: RelayRun = RelayRun {
     pattern: Pattern::Ring,
 };
 
+/// Sixteen ranks in a ring, with one letter under way.
+pub const LONG_RING: RelayRun = RelayRun {
+    ranks: 16,
+    rounds: 1600,
+    pattern: Pattern::Ring,
+};
+
 /// The parts of all ranks in a relay.
 pub fn relay_team(alloc: Global, run: RelayRun) -> Result<Vec<Relay>, NoMemory>
     requires { IsRelay run }

@@ -2,8 +2,9 @@ ghost use Rattle.std.specs.Prelude.{◌≡◌, ◌<◌, length};
 ghost use Rattle.samr_tree.specs.TreeSum.{AreSummable};
 
 use crate::alarms::Loud;
+use crate::breaking::{LateFirst, breaking_team};
 use crate::gates::Meeting;
-use crate::relays::{FLOOD, relay_team, ring_letters, totals};
+use crate::relays::{FLOOD, LONG_RING, relay_team, ring_letters, totals};
 use crate::sums::{five, four, strangers, team, three};
 use samr_drive::{Alarm, Halt, OpenGate, Stop, drive, run_ranks};
 use samr_link::{Fabric, OddFabric, QueueFabric};
@@ -133,5 +134,32 @@ fn many_letters_come_oddly(rt: HostRuntime) -> Result<(), Fail> {
     let team = relay_team(rt.alloc(), FLOOD)?;
     let ended = run_ranks(&rt, rt.alloc(), team, &mut fabric, &OpenGate)?;
     assert!(rt; totals(rt.alloc(), ended)?.as_slice() == TOLD.as_slice());
+    Ok(())
+}
+
+#[test]
+fn ranks_that_sleep_go_round(rt: HostRuntime) -> Result<(), Fail> {
+    let mut fabric = QueueFabric::<RelayMail>::new();
+    let team = relay_team(rt.alloc(), LONG_RING)?;
+    let ended = run_ranks(&rt, rt.alloc(), team, &mut fabric, &OpenGate)?;
+    // Each rank is told every sixteenth number: the first rank 16, 32 and so on up to 1600, whose
+    // sum is 80,800, and each other rank 100 of them, which are as much more than 0, 16 .. 1584.
+    let told = totals(rt.alloc(), ended)?;
+    assert_eq!(rt; told.len(), 16);
+    assert_eq!(rt; told[0], Some(80_800));
+    for rank in 1..16 {
+        assert_eq!(rt; told[rank], Some(79_200 + 100 * rank as u64));
+    }
+    Ok(())
+}
+
+#[test]
+fn want_of_memory_wakes_all(rt: HostRuntime) -> Result<(), Fail> {
+    let mut fabric = QueueFabric::<SumMail>::new();
+    let team = breaking_team(rt.alloc(), four(rt.alloc())?)?;
+    assert!(rt; run_ranks(&rt, rt.alloc(), team, &mut fabric, &LateFirst).is_err());
+    let mut odd = OddFabric::new(strangers(rt.alloc())?, 2);
+    let team = breaking_team(rt.alloc(), four(rt.alloc())?)?;
+    assert!(rt; run_ranks(&rt, rt.alloc(), team, &mut odd, &LateFirst).is_err());
     Ok(())
 }

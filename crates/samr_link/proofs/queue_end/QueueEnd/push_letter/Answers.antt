@@ -6,8 +6,8 @@ use Rattle.crossbeam_queue.specs.Passes.{view}
 use Rattle.samr_link.specs.Queue.{inbox_id, IsPost}
 use Rattle.samr_link.proofs.Zips.{zip_length}
 use Rattle.samr_link.proofs.EndLemmas.{post_at, roomy_at, sound_post, names_more, views_same, view_at}
-use Rattle.samr_link.proofs.queue_end.QueueEnd.post_letter.Goals as goal
-use Rattle.samr_link.proofs.queue_end.QueueEnd.post_letter.Goals.{After-index_mut}
+use Rattle.samr_link.proofs.queue_end.QueueEnd.push_letter.Goals as goal
+use Rattle.samr_link.proofs.queue_end.QueueEnd.push_letter.Goals.{After-index_mut}
 
 pub index_mut-requires : goal.index_mut-requires
 index_mut-requires g c =

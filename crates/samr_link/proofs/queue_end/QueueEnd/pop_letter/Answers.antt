@@ -3,7 +3,7 @@ use Rattle.std.proofs.lemmas.List.{length-map}
 use Rattle.std.specs.Arc.{arc_value}
 use Rattle.samr_link.specs.Queue.{inbox_id}
 use Rattle.samr_link.proofs.EndLemmas.{take_at, sound_take}
-use Rattle.samr_link.proofs.queue_end.QueueEnd.take_letter.Goals as goal
+use Rattle.samr_link.proofs.queue_end.QueueEnd.pop_letter.Goals as goal
 
 pub pop-requires-clause-inbox : goal.pop-requires-clause-inbox
 pop-requires-clause-inbox g c =
