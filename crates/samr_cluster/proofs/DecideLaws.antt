@@ -62,15 +62,15 @@ same_tests true b f g = sym (f refl)
 same_tests false true f g = g refl
 same_tests false false f g = refl
 
-map_flat : {X Y Z : Type 0} (f : Y → Z) (g : X → List Y) (xs : List X) → map f (flat_map g xs) ≡ flat_map (λ x. map f (g x)) xs
+pub map_flat : {X Y Z : Type 0} (f : Y → Z) (g : X → List Y) (xs : List X) → map f (flat_map g xs) ≡ flat_map (λ x. map f (g x)) xs
 map_flat f g [] = refl
 map_flat f g (x ∷ xs) = map_append f (g x) (flat_map g xs) ∙ ap (λ l. map f (g x) ++ l) (map_flat f g xs)
 
-map_of_map : {X Y Z : Type 0} (f : Y → Z) (g : X → Y) (xs : List X) → map f (map g xs) ≡ map (λ x. f (g x)) xs
+pub map_of_map : {X Y Z : Type 0} (f : Y → Z) (g : X → Y) (xs : List X) → map f (map g xs) ≡ map (λ x. f (g x)) xs
 map_of_map f g [] = refl
 map_of_map f g (x ∷ xs) = ap (λ l. f (g x) ∷ l) (map_of_map f g xs)
 
-picked_map : {X Y : Type 0} (t p : X → Bool) (v : X → Y) (xs : List X) → ((x : X) → t x ≡ p x) → flat_map (λ x. if t x then v x ∷ [] else []) xs ≡ map v (filter p xs)
+pub picked_map : {X Y : Type 0} (t p : X → Bool) (v : X → Y) (xs : List X) → ((x : X) → t x ≡ p x) → flat_map (λ x. if t x then v x ∷ [] else []) xs ≡ map v (filter p xs)
 picked_map t p v [] same = refl
 picked_map t p v (x ∷ xs) same = by (t x) (p x) (same x) (picked_map t p v xs same)
   where
@@ -191,11 +191,11 @@ module _ (x : Round) (is : IsClustering x.whole) where
   unfolding other_directors
   other_directors_sorted r nodes = sorted-in_order nat_cmp_total (filter (λ k. not (nat_eq k r)) (map (λ t. t.director) nodes))
 
-  Member-directors : (r k : ℕ) → k < w.ranks → k ≢ r → Member k (directors w r)
+  pub Member-directors : (r k : ℕ) → k < w.ranks → k ≢ r → Member k (directors w r)
   Member-directors r k less other =
       inr (Member-filter (λ d. not (nat_eq d r)) k (range_with_len 0 w.ranks) (Member-range w.ranks 0 k (omega arith) (omega (arith, less))) (is_not_same k r other))
 
-  directors_below : (r k : ℕ) → r < w.ranks → Member k (directors w r) → k < w.ranks
+  pub directors_below : (r k : ℕ) → r < w.ranks → Member k (directors w r) → k < w.ranks
   directors_below r k less (inl e) = omega (arith, less, e)
   directors_below r k less (inr m) =
       let f = Member-from_filter (λ d. not (nat_eq d r)) k (range_with_len 0 w.ranks) m in

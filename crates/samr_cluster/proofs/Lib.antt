@@ -9,3 +9,9 @@ pub mod DecideLaws
 pub mod DecideStage
 pub mod RoundLaws
 pub mod AskedLaws
+pub mod CountLaws
+pub mod ReportLists
+pub mod ReportLaws
+pub mod ReportStage
+pub mod ToldLaws
+pub mod WholeLaws

@@ -49,14 +49,14 @@ map_agree f g [] same = refl
 map_agree f g (x ∷ xs) same = ap (λ y. y ∷ map f xs) (same x (inl refl)) ∙ ap (λ l. g x ∷ l) (map_agree f g xs (λ y m. same y (inr m)))
 
 module _ {B : Type 0} (n : ℕ) (some : ℕ → ℕ → Bool) (body : ℕ → ℕ → B) where
-  tells_from : (from to : ℕ) → tells_some n some from to ≡ true → (from < n) × (to < n) × (to ≢ from) × (some from to ≡ true)
+  pub tells_from : (from to : ℕ) → tells_some n some from to ≡ true → (from < n) × (to < n) × (to ≢ from) × (some from to ≡ true)
   tells_from from to t =
       let first = and_parts (nat_lt from n) (nat_lt to n && (not (nat_eq to from) && some from to)) t in
       let second = and_parts (nat_lt to n) (not (nat_eq to from) && some from to) first.1 in
       let third = and_parts (not (nat_eq to from)) (some from to) second.1 in
       (ltb-true from n first.0, ltb-true to n second.0, not_same to from third.0, third.1)
 
-  tells_is : (from to : ℕ) → from < n → to < n → to ≢ from → some from to ≡ true → tells_some n some from to ≡ true
+  pub tells_is : (from to : ℕ) → from < n → to < n → to ≢ from → some from to ≡ true → tells_some n some from to ≡ true
   tells_is from to p q other t =
       and_from (nat_lt from n) (nat_lt to n && (not (nat_eq to from) && some from to)) (lt-ltb from n p)
       (and_from (nat_lt to n) (not (nat_eq to from) && some from to) (lt-ltb to n q)

@@ -6,5 +6,8 @@ pub mod SomeRows
 pub mod Rounds
 pub mod Verdicts
 pub mod DecideParts
+pub mod Reports
+pub mod ReportParts
+pub mod Wholes
 pub mod StageLaws
 pub mod Laws

@@ -10,6 +10,7 @@ use Rattle.samr_cluster.specs.Clustering.{Clustering, near}
 use Rattle.samr_cluster.specs.Rounds.{Round, open_of, near_of}
 use Rattle.samr_cluster.specs.SomeRows.{some_row}
 use Rattle.samr_cluster.specs.Verdicts.{verdict, decide_row}
+use Rattle.samr_cluster.specs.Reports.{was_told, signs_of, report_row}
 use Rattle.samr_cluster.specs.Accepting.{to_owners}
 use Rattle.samr_cluster.specs.EdgeRows.{with_boxes_of, edges_row}
 
@@ -36,3 +37,7 @@ pub decide_between : (x : Round) (from to : ℕ) → IsTrue (is_some (decide_row
 unfolding decide_row
 decide_between x from to h =
     some_between x.whole.ranks (λ from to. list_any (λ b. near x.whole to b) (open_of x from)) (λ from to. map (λ b. verdict x.whole b) (near_of x from to)) from to h
+
+pub report_between : (x : Round) (from to : ℕ) → IsTrue (is_some (report_row x from to)) → (from < x.whole.ranks) × (to < x.whole.ranks) × (from ≢ to)
+unfolding report_row
+report_between x from to h = some_between x.whole.ranks (λ from to. was_told x from to) (λ from to. signs_of x from to) from to h

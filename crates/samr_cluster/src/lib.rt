@@ -8,21 +8,27 @@
 mod accepted;
 mod all_ranks;
 mod connectors;
+mod counting;
 mod decide;
 mod edges;
 mod laws;
 mod nodes;
 mod peers;
+mod report;
+mod signing;
 mod telling;
 mod verdict;
+mod whole;
 
 pub use accepted::Accepted;
-pub use all_ranks::{decide_all, edges_all};
+pub use all_ranks::{decide_all, edges_all, report_all};
 pub use decide::Decide;
 pub use edges::Edges;
 pub use laws::{rounds_tell_the_accepted, the_asked_were_told};
-pub use nodes::{Counted, Decided, Directed, Reported, Told};
+pub use nodes::{Counted, Decided, Directed, OpenNodes, Reported, Told};
+pub use report::Report;
 pub use verdict::Verdict;
+pub use whole::cluster_all;
 
 #[cfg(test)]
 mod tests;

@@ -17,6 +17,13 @@ pub struct Directed {
     pub asked: Listed<u16>,
 }
 
+/// What a rank has before a round: the open nodes that it was told, and those that it directs.
+#[derive(Debug, Drop)]
+pub struct OpenNodes {
+    pub told: Listed<Told>,
+    pub directed: Listed<Directed>,
+}
+
 /// A directed node with the sum of the signatures that were reported, and with the number of tags of
 /// each rank that reported it as near, ascending.
 #[derive(Drop)]

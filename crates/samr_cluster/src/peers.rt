@@ -3,9 +3,10 @@ ghost use Rattle.std.specs.List.{flat_map};
 ghost use Rattle.std.specs.Ordering.{nat_cmp};
 ghost use Rattle.samr_level.specs.RefOrders.{in_order};
 ghost use Rattle.samr_cluster.specs.DecideParts.{other_directors, others_near};
+ghost use Rattle.samr_cluster.specs.ReportParts.{others_asked};
 
 use crate::accepted::Accepted;
-use crate::nodes::Told;
+use crate::nodes::{Directed, Told};
 use crate::verdict::Judged;
 use std::alloc::{AllocError as NoMemory, Global};
 
@@ -88,4 +89,16 @@ pub fn others_near(alloc: Global, rank: u16, judged: &[Judged]) -> Result<Vec<u1
         push_others(rank, j.near.as_slice(), &mut near)?;
     }
     Ok(each_once(near))
+}
+
+/// The other ranks that were told directed nodes, ascending, each once.
+#[tactic(auto, unfolding(crate::specs::ReportParts::others_asked))]
+pub fn others_asked(alloc: Global, rank: u16, directed: &[Directed]) -> Result<Vec<u16>, NoMemory>
+    ensures { IfOk result (λ v. v.items ≡ others_asked rank directed.now) }
+{
+    let mut asked = Vec::new(alloc);
+    for p in directed {
+        push_others(rank, p.asked.as_slice(), &mut asked)?;
+    }
+    Ok(each_once(asked))
 }
