@@ -28,19 +28,19 @@ factor_one r p =
     let e : int_max r r ≡ r = omega (arith, ints, clamps) in
     ap (λ (v : ℤ). floor v r) e ∙ floor_self r (omega (arith, ints))
 
-same_factor : (r : IVec) → IsRatio r → coarse (greatest r r) r ≡ alike (pos 1)
+pub same_factor : (r : IVec) → IsRatio r → coarse (greatest r r) r ≡ alike (pos 1)
 same_factor r h = same_cell (factor_one r.k h.low.k) (factor_one r.j h.low.j) (factor_one r.i h.low.i)
 
 one_on : (x : ℤ) → x *ℤ pos 1 ≡ x
 one_on x = mul_comm x (pos 1) ∙ mul_one x
 
-times_one : (x : IVec) → times x (alike (pos 1)) ≡ x
+pub times_one : (x : IVec) → times x (alike (pos 1)) ≡ x
 times_one x = same_cell (one_on x.k) (one_on x.j) (one_on x.i)
 
 last_on : (x : ℤ) → (x *ℤ pos 1) +ℤ (pos 1 -ℤ pos 1) ≡ x
 last_on x = let e = one_on x in omega (arith, ints, e)
 
-refined_one : (b : Corners) → refined b (alike (pos 1)) ≡ b
+pub refined_one : (b : Corners) → refined b (alike (pos 1)) ≡ b
 refined_one b = same_corners (times_one b.lo) (same_cell (last_on b.hi.k) (last_on b.hi.j) (last_on b.hi.i))
 
 near_by : (d : Space) (w f : IVec) (a b : Corners) (s : IVec) → f ≡ alike (pos 1)
@@ -52,7 +52,7 @@ near_by d w f a b s e =
     ∙ ap (λ (v : IVec). meets (grown a v) (image d (refined b one) s)) (times_one (times w one) ∙ times_one w)
     ∙ ap (λ (v : Corners). meets (grown a w) (image d v s)) (refined_one b)
 
-near_is : (d : Space) (w r : IVec) (e : Link) → IsRatio r
+pub near_is : (d : Space) (w r : IVec) (e : Link) → IsRatio r
     → is_true (scale_in d w r r) e ≡ meets (grown e.base.bx w) (image d e.head.bx e.shift)
 near_is d w r e h = near_by d w (coarse (greatest r r) r) e.base.bx e.head.bx e.shift (same_factor r h)
 

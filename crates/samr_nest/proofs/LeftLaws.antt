@@ -14,22 +14,24 @@ use Rattle.samr_boxlist.proofs.Disjointness.{none_meet-from, IsDisjoint-from}
 use Rattle.samr_level.specs.Refs.{Link}
 use Rattle.samr_level.specs.Regions.{Area, IsArea, boxes_of}
 use Rattle.samr_level.proofs.Level0Laws.{boxes-apart}
-use Rattle.samr_nest.specs.Starts.{stretched}
-use Rattle.samr_nest.specs.Nested.{nested_by}
+use Rattle.samr_nest.specs.Starts.{needed}
+use Rattle.samr_nest.specs.Nested.{holes_by, nested_by}
 
-pub left_is : (a : Area) (near : List Link) (nest : IVec) (c around : Corners) (d e : Space)
-    (boxes boxes1 boxes2 start images images1 holes holes1 gaps gaps1 part rest : List Corners)
-    → boxes ≡ boxes_of a → boxes1 ≡ boxes → boxes2 ≡ boxes → around ≡ grown c nest → d ≡ a.frame → e ≡ a.frame
-    → start ≡ filter_map (λ p. met (stretched d around p) around) boxes1
-    → images ≡ filter_map (λ l. met (image e l.head.bx l.shift) around) near → images1 ≡ images
-    → holes ≡ all_subtracted start images1 → holes1 ≡ holes
+pub left_is : (a : Area) (near : List Link) (nest : IVec) (c : Corners) (boxes boxes1 holes holes1 gaps gaps1 part rest : List Corners)
+    → boxes ≡ boxes_of a → boxes1 ≡ boxes → holes ≡ holes_by a near nest c → holes1 ≡ holes
     → gaps ≡ filter_map (λ m. met (grown m nest) c) holes1 → gaps1 ≡ gaps
-    → part ≡ filter_map (λ p. met p c) boxes2
+    → part ≡ filter_map (λ p. met p c) boxes1
     → rest ≡ all_subtracted part gaps1
     → rest ≡ nested_by a near nest c
 unfolding nested_by
-left_is a near nest c around d e boxes boxes1 boxes2 start images images1 holes holes1 gaps gaps1 part rest b b1 b2 g d_is e_is s i i1 h h1 p p1 n r =
-    rw (r, n, p1, p, h1, h, i1, i, s, b1, b2, e_is, d_is, g, b) refl
+left_is a near nest c boxes boxes1 holes holes1 gaps gaps1 part rest b b1 h h1 p p1 n r = rw (r, n, p1, p, h1, h, b1, b) refl
+
+pub holes_are : (a : Area) (near : List Link) (width : IVec) (c around : Corners) (d : Space) (start images images1 holes : List Corners)
+    → around ≡ grown c width → d ≡ a.frame → start ≡ needed a around
+    → images ≡ filter_map (λ l. met (image d l.head.bx l.shift) around) near → images1 ≡ images
+    → holes ≡ all_subtracted start images1
+    → holes ≡ holes_by a near width c
+holes_are a near width c around d start images images1 holes g d_is s i i1 h = rw (h, i1, i, s, d_is, g) refl
 
 pub left_once : (a : Area) (x : IVec) (c : Corners) (boxes part rest : List Corners) (gone : Bool) → IsArea a → boxes ≡ boxes_of a
     → cover x part ≡ cond (holds c x) (cover x boxes) 0 → cover x rest ≡ cond gone 0 (cover x part)

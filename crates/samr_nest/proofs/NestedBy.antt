@@ -1,10 +1,10 @@
 -- The edges of a cluster are enough: the list that they give is that of the whole level.
 use Rattle.std.proofs.Common.{◌≡◌, sym, ap, ◌∙◌, subst, arith}
 use Rattle.std.proofs.lemmas.Int.{ints, clamps}
-use Rattle.std.specs.Prelude.{pos, true, List, map}
+use Rattle.std.specs.Prelude.{pos, true, List, [], ◌∷◌, map}
 use Rattle.std.specs.List.{filter_map}
 use Rattle.samr_box.specs.declared.vector.IVec.{IVec}
-use Rattle.samr_box.specs.Vector.{alike, AtMost, times}
+use Rattle.samr_box.specs.Vector.{alike, AtMost, times, IsRatio}
 use Rattle.samr_box.specs.Corners.{Corners, IsBox, meets, met, common, grown}
 use Rattle.samr_box.specs.Space.{image}
 use Rattle.samr_box.specs.Lists.{Member}
@@ -13,10 +13,10 @@ use Rattle.samr_box.proofs.Members.{Member-from_map, Member-from_flat_map}
 use Rattle.samr_boxlist.specs.Slabs.{all_subtracted}
 use Rattle.samr_level.specs.Refs.{Owned, Link}
 use Rattle.samr_level.specs.Regions.{Area, IsArea, boxes_of}
-use Rattle.samr_level.specs.Overlaps.{shifts}
+use Rattle.samr_level.specs.Overlaps.{shifts, scale_in, true_overlaps}
 use Rattle.samr_level.proofs.Level0Laws.{boxes-facts}
 use Rattle.samr_nest.specs.Starts.{stretched, needed, inner}
-use Rattle.samr_nest.specs.Nested.{images, holes, nested, nested_by, AreEdgesTo}
+use Rattle.samr_nest.specs.Nested.{images, holes, holes_by, nested, nested_by, AreEdgesTo}
 use Rattle.samr_nest.proofs.Moved.{AtMost-picked, AtMost-plus, AtMost-grown}
 use Rattle.samr_nest.proofs.NearParts.{IsWithin, AllWithin, AllFull, IsBox-near, parts_enough, within_all_subtracted}
 use Rattle.samr_nest.proofs.Subtracting.{common_member}
@@ -72,22 +72,32 @@ grown_less c n w h = (
   record { k = omega (arith, ints, h.k); j = omega (arith, ints, h.j); i = omega (arith, ints, h.i) },
 )
 
+-- all edges of a box to a list of boxes that are not empty give its holes
+pub holes_from_all : (a : Area) (level : List Owned) (width : IVec) (c : Owned) (near : List Link) (wider ratio : IVec)
+    → IsArea a → IsBox (grown c.bx width) → ((b : Owned) → Member b level → AtMost b.bx.lo b.bx.hi) → AtMost width wider → IsRatio ratio
+    → near ≡ true_overlaps (scale_in a.frame wider ratio ratio) (c ∷ []) level → holes_by a near width c.bx ≡ holes a level (grown c.bx width)
+holes_from_all a level width c near wider ratio area q full wide is_ratio edges =
+    let g = grown c.bx width in
+    let less = grown_less c.bx width wider wide in
+    let named : filter_map (λ e. met (image a.frame e.head.bx e.shift) g) near ≡ filter_map (λ b. met b g) (images a level) =
+    ap (λ (l : List Link). filter_map (λ e. met (image a.frame e.head.bx e.shift) g) l) edges
+    ∙ edge_images a.frame c level g wider ratio is_ratio less.0 less.1 in
+    ap (λ (l : List Corners). all_subtracted (needed a g) l) named
+    ∙ parts_enough g (images a level) (needed a g) q (needed_within a area g q) (images_full a level full)
+
+pub holes_from_edges : (a : Area) (level : List Owned) (width : IVec) (c : Owned) (near : List Link)
+    → IsArea a → IsBox (grown c.bx width) → AreEdgesTo a level width c near → holes_by a near width c.bx ≡ holes a level (grown c.bx width)
+holes_from_edges a level width c near area q h =
+    holes_from_all a level width c near h.width h.ratio area q h.is_level.not_empty h.is_wide h.is_ratio h.edges
+
 pub cut_from_edges : (a : Area) (level : List Owned) (nest : IVec) (c : Owned) (near : List Link)
     → IsArea a → AtMost (alike (pos 0)) nest → IsBox c.bx → IsBox (grown c.bx nest) → AreEdgesTo a level nest c near
     → nested_by a near nest c.bx ≡ nested a level nest c.bx
 unfolding nested_by nested
 cut_from_edges a level nest c near area wide p q h =
     let g = grown c.bx nest in
-    let less = grown_less c.bx nest h.width h.is_wide in
-    let named : filter_map (λ e. met (image a.frame e.head.bx e.shift) g) near ≡ filter_map (λ b. met b g) (images a level) =
-    ap (λ (l : List Link). filter_map (λ e. met (image a.frame e.head.bx e.shift) g) l) h.edges
-    ∙ edge_images a.frame c level g h.width h.ratio h.is_ratio less.0 less.1 in
-    let full = images_full a level h.is_level.not_empty in
-    let whole : all_subtracted (needed a g) (filter_map (λ b. met b g) (images a level)) ≡ holes a level g =
-    parts_enough g (images a level) (needed a g) q (needed_within a area g q) full in
     let within = holes_within a level g area q h.is_level.not_empty in
-    ap (λ (l : List Corners). all_subtracted (inner a c.bx) (filter_map (λ m. met (grown m nest) c.bx) (all_subtracted (needed a g) l))) named
-    ∙ ap (λ (l : List Corners). all_subtracted (inner a c.bx) (filter_map (λ m. met (grown m nest) c.bx) l)) whole
+    ap (λ (l : List Corners). all_subtracted (inner a c.bx) (filter_map (λ m. met (grown m nest) c.bx) l)) (holes_from_edges a level nest c near area q h)
     ∙ ap (λ (l : List Corners). all_subtracted (inner a c.bx) l) (filter_map_map (λ b. met b c.bx) (λ m. grown m nest) (holes a level g))
     ∙ parts_enough c.bx (map (λ m. grown m nest) (holes a level g)) (inner a c.bx) p (inner_within a area c.bx p)
     (gaps_full nest (holes a level g) wide (within_full g (holes a level g) within))

@@ -89,25 +89,31 @@ level_images a ranks level y area is near =
           held-from y r.0 (images a level) r.1 r.2,
     )
 
+-- what a box needs of the domain has its cells in the domain
+pub needed_at : (a : Area) (g : Corners) (y : IVec) → IsArea a → IsPlain a → IsTrue (held y (needed a g)) ↔ (Holds g y × IsInside a y)
+needed_at a g y area plain =
+    let need = held-commons (stretched a.frame g) g y (boxes_of a) in (
+      λ t. let n = need.0 t in let p = n.0.0 in (n.1, (p, n.0.1, has_stretched a.frame g p y area.frame (boxes_span a p plain n.0.1) n.0.2)),
+      λ (h, (p, m, w)). need.1 ((p, m, stretched_has a.frame g p y h w), h),
+    )
+
+-- a hole near the frame is a cell of the domain that the level does not have
+pub hole_at : (a : Area) (ranks : ℕ) (level : List Owned) (g : Corners) (y : IVec) → IsArea a → IsLevel a ranks level → IsPlain a → IsNearFrame a.frame y
+    → IsTrue (held y (holes a level g)) ↔ (Holds g y × IsInside a y × (IsCellIn level (wrapped a.frame y) → ⊥))
+hole_at a ranks level g y area is plain near =
+    let left = held-all_subtracted y (images a level) (needed a g) (images_full a level is.not_empty) in
+    let law = level_images a ranks level y area is near in
+    let need = needed_at a g y area plain in (
+      λ t. let h = left.0 t in let n = need.0 h.0 in (n.0, n.1, λ i. false≢true (sym h.1 ∙ law.1 i)),
+      λ (h, inside, out). left.1 (need.1 (h, inside), false_from_ne_true (held y (images a level)) (λ t. out (law.0 t))),
+    )
+
 module _ (a : Area) (ranks : ℕ) (level : List Owned) (nest : IVec) (c : Corners)
     (area : IsArea a) (is : IsLevel a ranks level) (width : IsWidth a.frame nest) (box : IsBox c) (around : IsBox (grown c nest))
     (home : (x : IVec) → Holds c x → Holds (whole a.frame) x) (plain : IsPlain a) where
-  -- a hole near the cluster is a cell of the domain that the level does not have
   hole : (y : IVec) → IsNearFrame a.frame y → IsTrue (held y (holes a level (grown c nest)))
       ↔ (Holds (grown c nest) y × IsInside a y × (IsCellIn level (wrapped a.frame y) → ⊥))
-  hole y near =
-      let g = grown c nest in
-      let left = held-all_subtracted y (images a level) (needed a g) (images_full a level is.not_empty) in
-      let law = level_images a ranks level y area is near in
-      let need = held-commons (stretched a.frame g) g y (boxes_of a) in (
-        λ t.
-            let h = left.0 t in
-            let n = need.0 h.0 in
-            let p = n.0.0 in
-            (n.1, (p, n.0.1, has_stretched a.frame g p y area.frame (boxes_span a p plain n.0.1) n.0.2), λ i. false≢true (sym h.1 ∙ law.1 i)),
-        λ (h, (p, m, w), out).
-            left.1 (need.1 ((p, m, stretched_has a.frame g p y h w), h), false_from_ne_true (held y (images a level)) (λ t. out (law.0 t))),
-      )
+  hole y near = hole_at a ranks level (grown c nest) y area is plain near
 
   near_frame : (x y : IVec) → Holds c x → Within nest x y → IsNearFrame a.frame y
   near_frame x y h w = near_neighbour a.frame nest x y width.high (home x h) w

@@ -35,11 +35,13 @@ owned owner boxes = map (λ b. record { owner = owner; bx = b }) boxes
 abbrev pub cut_of : Area → List Owned → IVec → ℕ → Owned → Move
 cut_of a level nest largest c = record { old = c; news = owned c.owner (chopped largest (nested a level nest c.bx)) }
 
--- the same list, made from edges of the cluster
+-- the same lists, made from edges of the box and of the cluster
+abbrev pub holes_by : Area → List Link → IVec → Corners → List Corners
+holes_by a near width c = all_subtracted (needed a (grown c width)) (filter_map (λ e. met (image a.frame e.head.bx e.shift) (grown c width)) near)
+
 unfoldable pub nested_by : Area → List Link → IVec → Corners → List Corners
 nested_by a near nest c =
-    all_subtracted (inner a c) (filter_map (λ m. met (grown m nest) c)
-    (all_subtracted (needed a (grown c nest)) (filter_map (λ e. met (image a.frame e.head.bx e.shift) (grown c nest)) near)))
+    all_subtracted (inner a c) (filter_map (λ m. met (grown m nest) c) (holes_by a near nest c))
 
 -- these are all edges of the cluster to the level, at a width of at least the nest width; the level and the
 -- cluster have the same ratio

@@ -2,7 +2,7 @@
 //!
 //! A cell of a cluster stays where all cells of the domain within the nest width lie in the level,
 //! round periodic borders too. The cut needs only the edges of one cluster to the level; contracts
-//! speak of the whole level.
+//! speak of the whole level. So do those of what of a box the domain has and the level has not.
 #![tactic(auto)]
 
 mod cutting;
@@ -15,6 +15,8 @@ pub use laws::{
     edges_of_one_cluster, small_frames_leave_room, starts_in_parts, starts_in_the_frame,
     worked_rows,
 };
+pub use remains::holes;
+pub use starts::needed;
 
 #[cfg(test)]
 mod tests;

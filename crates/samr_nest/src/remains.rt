@@ -1,4 +1,4 @@
-ghost use Rattle.std.specs.Prelude.{◌≡◌, ℕ, ◌≤◌, pos, if◌then◌else◌, IfOk};
+ghost use Rattle.std.specs.Prelude.{◌≡◌, ℕ, ◌≤◌, pos, List, if◌then◌else◌, IfOk};
 ghost use Rattle.std.specs.List.{filter_map};
 ghost use Rattle.samr_box.specs.declared.vector.IVec.{IVec};
 ghost use Rattle.samr_box.specs.Vector.{alike, Between};
@@ -8,12 +8,12 @@ ghost use Rattle.samr_boxlist.specs.Covers.{cover};
 ghost use Rattle.samr_level.specs.Refs.{Owned, Link};
 ghost use Rattle.samr_level.specs.Regions.{IsArea};
 ghost use Rattle.samr_level.specs.Neighbours.{IsWidth};
-ghost use Rattle.samr_nest.specs.Nested.{nested_by};
+ghost use Rattle.samr_nest.specs.Nested.{holes, holes_by, nested_by, AreEdgesTo};
 
 use crate::starts::{needed, part_between};
 use samr_box::{Domain, IBox, IVec, Shift, grow};
 use samr_boxlist::{intersect, subtract_each};
-use samr_level::{Edge, Region};
+use samr_level::{BoxRef, Edge, Region};
 use std::alloc::{AllocError as NoMemory, Global};
 
 /// What is left of a box without all cells that have a hole of the level within the nest width.
@@ -31,15 +31,55 @@ pub(crate) fn left(
     ensures once { IfOk result (λ v. (x : IVec) → cover x v.items ≤ (if holds c x then 1 else 0)) }
     ensures area { IfOk result (λ v. IsArea region.now) }
 {
-    let boxes = region.boxes(alloc)?;
-    let around = grow(c, nest);
-    let start = needed(alloc, region.frame(), boxes.as_slice(), around)?;
-    let images = images(alloc, region.frame(), near, around)?;
-    let holes = subtract_each(alloc, start, images.as_slice())?;
+    let holes = holes_of(alloc, c, near, nest, region)?;
     let gaps = gaps(alloc, holes.as_slice(), nest, c)?;
+    let boxes = region.boxes(alloc)?;
     let inner = intersect(alloc, boxes.as_slice(), c)?;
     let rest = subtract_each(alloc, inner, gaps.as_slice())?;
     Ok(rest)
+}
+
+/// What of a box and of the cells within a width of it lies in the domain and in no box of the level,
+/// round periodic borders too.
+///
+/// `near` are the box's edges to the level, in edge order, at a width of at least `width`; box and level
+/// are of the same index space, of which `region` is the domain.
+///
+/// # Errors
+///
+/// Where memory is short.
+pub fn holes(
+    alloc: Global,
+    c: BoxRef,
+    near: &[Edge],
+    width: IVec,
+    region: &Region,
+) -> Result<Vec<IBox>, NoMemory>
+    requires { IsBox (grown c.bx width) }
+    ensures by_edges { IfOk result (λ v. v.items ≡ holes_by region.now near.now width c.bx) }
+    ensures value { IfOk result (λ v. (level : List Owned) → AreEdgesTo region.now level width c near.now → v.items ≡ holes region.now level (grown c.bx width)) }
+{
+    let holes = holes_of(alloc, c.bx, near, width, region)?;
+    Ok(holes)
+}
+
+/// What of a box and of the cells within a width lies in the domain and in no image of a head.
+fn holes_of(
+    alloc: Global,
+    c: IBox,
+    near: &[Edge],
+    width: IVec,
+    region: &Region,
+) -> Result<Vec<IBox>, NoMemory>
+    requires { IsBox (grown c width) }
+    ensures value { IfOk result (λ v. v.items ≡ holes_by region.now near.now width c) }
+    ensures area { IfOk result (λ v. IsArea region.now) }
+{
+    let around = grow(c, width);
+    let start = needed(alloc, around, region)?;
+    let images = images(alloc, region.frame(), near, around)?;
+    let holes = subtract_each(alloc, start, images.as_slice())?;
+    Ok(holes)
 }
 
 /// The parts of a box that lie in images of heads.

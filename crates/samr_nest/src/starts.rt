@@ -3,18 +3,30 @@ ghost use Rattle.std.specs.List.{filter_map};
 ghost use Rattle.samr_box.specs.declared.vector.IVec.{IVec};
 ghost use Rattle.samr_box.specs.Vector.{AtMost};
 ghost use Rattle.samr_box.specs.Corners.{Corners, met};
-ghost use Rattle.samr_nest.specs.Starts.{picked, stretched};
+ghost use Rattle.samr_level.specs.Regions.{IsArea};
+ghost use Rattle.samr_nest.specs.Starts.{picked, stretched, needed};
 
 use samr_box::{Domain, Flags, IBox, IVec};
+use samr_level::Region;
 use std::alloc::{AllocError as NoMemory, Global};
 
-/// The parts of a box that lie in a box of the domain on physical axes.
-pub(crate) fn needed(
-    alloc: Global,
-    d: &Domain,
-    boxes: &[IBox],
-    b: IBox,
-) -> Result<Vec<IBox>, NoMemory>
+/// The parts of a box that lie in the domain, in the order of the boxes of the domain: on physical axes
+/// they end at the borders, on periodic axes they reach as far as the box does.
+///
+/// # Errors
+///
+/// Where memory is short.
+pub fn needed(alloc: Global, b: IBox, region: &Region) -> Result<Vec<IBox>, NoMemory>
+    ensures parts { IfOk result (λ v. v.items ≡ needed region.now b) }
+    ensures area { IfOk result (λ v. IsArea region.now) }
+{
+    let boxes = region.boxes(alloc)?;
+    let parts = needed_of(alloc, region.frame(), boxes.as_slice(), b)?;
+    Ok(parts)
+}
+
+/// The parts of a box that lie in a box of a list on physical axes.
+fn needed_of(alloc: Global, d: &Domain, boxes: &[IBox], b: IBox) -> Result<Vec<IBox>, NoMemory>
     ensures { IfOk result (λ v. v.items ≡ filter_map (λ p. met (stretched d.now b p) b) boxes.now) }
 {
     boxes
