@@ -1,0 +1,13 @@
+pub mod Plain
+pub mod Requests
+pub mod FieldLaws
+pub mod PlanLaws
+pub mod StageRows
+pub mod MadeLaws
+pub mod AllStages
+pub mod Heads
+pub mod LevelHeads
+pub mod OneOrigin
+pub mod DownNear
+pub mod PlanTells
+pub mod FitPlans
