@@ -1,11 +1,13 @@
-//! Benchmarks. Each prints ratios within one run: how its time grows with its work, or what threads
-//! take against one. Without a word the program names them.
+//! Benchmarks. Each prints ratios within one run: how its time grows with its work, what threads take
+//! against one, or one way against a plain one. Without a word the program names them.
 #![tactic(auto)]
 
 mod bridging;
+mod copying;
 mod racing;
 mod report;
 mod stopwatch;
+mod tagging;
 mod teams;
 
 use std::{env, io};
@@ -15,11 +17,19 @@ fn main(rt: HostRuntime) -> io::Result<()> {
     let mut words = env::args(&rt)?.skip(1);
     let Some(word) = words.next() else {
         println!(rt; "bridge")?;
+        println!(rt; "patches")?;
+        println!(rt; "tags")?;
         println!(rt; "threads")?;
         return Ok(());
     };
     if word.as_str() == "bridge" {
         return bridging::print(&rt, alloc);
+    }
+    if word.as_str() == "patches" {
+        return copying::print(&rt, alloc);
+    }
+    if word.as_str() == "tags" {
+        return tagging::print(&rt, alloc);
     }
     if word.as_str() == "threads" {
         return racing::print(&rt, alloc);

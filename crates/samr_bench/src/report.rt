@@ -89,3 +89,10 @@ pub fn print_case<R: Print>(rt: &R, what: &str, case: Case) -> io::Result<()> {
     println!(rt; "; of one thread: wall {more} % processor {worked} %")?;
     Ok(())
 }
+
+/// Prints how long one way took for each of its rounds, and what part that is of another way.
+pub fn print_race<R: Print>(rt: &R, what: &str, one: Sample, other: Sample) -> io::Result<()> {
+    let part = hundredths(one.nanoseconds, other.nanoseconds);
+    println!(rt; "{what} each {} ns, of the plain way: {part} %", one.each())?;
+    Ok(())
+}
