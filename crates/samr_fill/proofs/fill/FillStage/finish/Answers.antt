@@ -1,0 +1,18 @@
+use Rattle.samr_fill.proofs.Stages.{ready_fields}
+use Rattle.samr_fill.proofs.fill.FillStage.finish.Goals as goal
+
+pub fill_fields-requires : goal.fill_fields-requires
+fill_fields-requires g c =
+    let self = c.args.self in (
+      c.requires.0,
+      c.requires.1,
+      ready_fields self.plan self.own self.strategies.now self.parcels.items self.senders.items c.requires.0 c.requires.1 c.requires.2
+          c.args.held.items c.requires.3 c.in_ok-all.all.items c.in_ok-all.ensures c.as_slice-2.result.now c.as_slice-2.ensures.value c.as_slice.result.now c.as_slice.ensures,
+    )
+
+pub returns : goal.returns
+returns g c = λ w rank h e.
+    let self = c.args.self in
+    c.in_ok-done.ensures w rank
+    (ready_fields self.plan self.own self.strategies.now self.parcels.items self.senders.items w rank h
+    c.args.held.items e c.in_ok-all.all.items c.in_ok-all.ensures c.as_slice-2.result.now c.as_slice-2.ensures.value c.as_slice.result.now c.as_slice.ensures)

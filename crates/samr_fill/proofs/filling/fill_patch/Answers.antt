@@ -1,0 +1,51 @@
+use Rattle.samr_fill.specs.Filling.{value_of}
+use Rattle.samr_fill.specs.Writing.{any_takes}
+use Rattle.samr_fill.proofs.PatchTasks.{rest_fits, small_step, all_fit, all_true, can, done}
+use Rattle.samr_fill.proofs.filling.fill_patch.Goals as goal
+
+pub write_all-requires-clause-into : goal.write_all-requires-clause-into
+write_all-requires-clause-into g c =
+    let w = c.requires.0 in
+    let rank = c.requires.1 in
+    rest_fits c.args.plan.now c.args.parcels.now c.args.field c.args.strategy.now c.args.base c.args.field_plan.now c.args.patch.now w rank c.requires.2
+    c.in_ok-copy.copy c.in_ok-copy.ensures c.as_slice-rest.result.now c.as_slice-rest.ensures
+
+pub write_all-requires-clause-small : goal.write_all-requires-clause-small
+write_all-requires-clause-small g c =
+    small_step c.args.plan.now c.args.parcels.now c.args.field c.args.strategy.now c.args.base c.args.field_plan.now c.args.patch.now c.requires.0 c.requires.1 c.requires.2
+
+pub write_all-requires-clause-fit : goal.write_all-requires-clause-fit
+write_all-requires-clause-fit g c = λ p m t.
+    all_fit c.args.plan.now c.args.parcels.now c.args.field c.args.strategy.now c.args.base c.args.field_plan.now c.args.patch.now c.requires.0 c.requires.1 c.requires.2
+    c.in_ok-copy.copy c.in_ok-copy.ensures p m t
+
+pub ended-requires : goal.ended-requires
+ended-requires g c = λ x h.
+    let w = c.requires.0 in
+    let rank = c.requires.1 in
+    let task = c.requires.2 in
+    let plan = c.args.plan.now in
+    let all = c.args.parcels.now in
+    let n = c.args.field in
+    let r = c.args.strategy.now in
+    let b = c.args.base in
+    let fp = c.args.field_plan.now in
+    let p = c.args.patch.now in
+    let l = c.as_slice-rest.result.now in
+    can plan all n r b fp p w rank task c.in_ok-copy.copy c.write_all.new.patch (any_takes plan l b n all) c.in_ok-copy.ensures
+    (c.in_ok-write_all.ensures (value_of w (n, r)) (λ q m t. all_true plan all n r b fp p w rank task l c.as_slice-rest.ensures q m t)) x h
+
+pub returns : goal.returns
+returns g c = λ w rank task.
+    let plan = c.args.plan.now in
+    let all = c.args.parcels.now in
+    let n = c.args.field in
+    let r = c.args.strategy.now in
+    let b = c.args.base in
+    let fp = c.args.field_plan.now in
+    let p = c.args.patch.now in
+    let l = c.as_slice-rest.result.now in
+    done plan all n r b fp p w rank task c.in_ok-copy.copy c.write_all.new.patch c.in_ok-done.done l c.as_slice-inside.result.now c.as_slice-rest.ensures c.as_slice-inside.ensures
+    c.in_ok-copy.ensures
+    (c.in_ok-write_all.ensures (value_of w (n, r)) (λ q m t. all_true plan all n r b fp p w rank task l c.as_slice-rest.ensures q m t))
+    c.in_ok-done.ensures

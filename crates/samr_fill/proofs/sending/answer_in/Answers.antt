@@ -1,0 +1,17 @@
+use Rattle.std.proofs.Common.{◌≡◌, ◌∙◌, sym, ap, subst, IfOk}
+use Rattle.std.specs.Prelude.{Option}
+use Rattle.std.specs.List.{find}
+use Rattle.std.specs.Option.{option_copied}
+use Rattle.samr_level.specs.Refs.{Owned}
+use Rattle.samr_sched.specs.declared.plan.Request.{Request}
+use Rattle.samr_data.specs.Grids.{Grid}
+use Rattle.samr_fill.specs.declared.parcel.Parcel.{Parcel}
+use Rattle.samr_fill.specs.Sending.{then_some, is_box, answer_of}
+use Rattle.samr_fill.proofs.sending.answer_in.Goals as goal
+
+pub returns-in-Some : goal.returns-in-Some
+returns-in-Some c =
+    let by : Option Grid → Option Parcel = λ o. then_some o (λ p. answer_of c.args.d.now c.args.q.now p) in
+    subst (λ (v : Option Parcel). IfOk c.answer_of.result (λ o. o ≡ v))
+    (ap by (sym (ap (λ (q : Request). find (λ p. is_box q.edge.head.bx p) c.args.patches.now) (sym c.q.view_is) ∙ ap (λ (h : Owned). find (λ p. is_box h.bx p) c.args.patches.now) (sym c.head.view_is) ∙ sym c.patch_of.ensures ∙ ap option_copied c.in-Some.is)))
+    c.answer_of.ensures

@@ -1,0 +1,12 @@
+pub mod Filling
+pub mod Parcels
+pub mod FillParts
+pub mod Sending
+pub mod Writing
+pub mod Ending
+pub mod Tasks
+pub mod Staging
+pub mod AllFills
+pub mod Rows
+pub mod Laws
+pub mod StageLaws

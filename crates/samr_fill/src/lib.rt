@@ -1,0 +1,25 @@
+//! Fills: every cell of every patch of a level gets its value.
+//!
+//! A rank tells the others what their ghost cells have of its patches, each rank writes what it was told into
+//! its own, and last come the cells beyond the borders. Contracts speak of the values of whole levels.
+#![tactic(auto)]
+
+mod all_fills;
+mod coarse;
+mod ending;
+mod fill;
+mod filling;
+mod laws;
+mod letters;
+mod parcel;
+mod parts;
+mod sending;
+mod writing;
+
+pub use all_fills::fill_all;
+pub use fill::Fill;
+pub use laws::{copies_agree, the_level_keeps_its_values, values_fit, values_of_rows};
+pub use parcel::Parcel;
+
+#[cfg(test)]
+mod tests;
