@@ -31,4 +31,6 @@ pub use verdict::Verdict;
 pub use whole::cluster_all;
 
 #[cfg(test)]
+mod end_to_end_tests;
+#[cfg(test)]
 mod tests;
