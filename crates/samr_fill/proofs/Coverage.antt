@@ -36,7 +36,7 @@ use Rattle.samr_data.specs.Places.{moved_back}
 use Rattle.samr_ops.specs.declared.rules.Rules.{Rules}
 use Rattle.samr_sched.specs.Scheduling.{Scheduling, IsScheduling, IsGhost, domain_of, coarse_domain, frame_of, coarse_frame, selves_of, downs_of}
 use Rattle.samr_sched.specs.Plans.{copies, rest, request, requests, plan_of}
-use Rattle.samr_fill.specs.declared.parcel.Parcel.{Parcel}
+use Rattle.samr_data.specs.declared.parcel.Parcel.{Parcel}
 use Rattle.samr_fill.specs.Filling.{Filling, IsFilling, has}
 use Rattle.samr_fill.specs.Parcels.{copied_along, asked_region, answered, parcels}
 use Rattle.samr_fill.specs.Writing.{is_for, takes, any_takes}

@@ -26,7 +26,7 @@ use Rattle.samr_sched.specs.declared.plan.BoxPlan.{BoxPlan}
 use Rattle.samr_sched.specs.declared.plan.FieldPlan.{FieldPlan}
 use Rattle.samr_sched.specs.Scheduling.{Scheduling, coarse_frame, downs_of}
 use Rattle.samr_sched.specs.Plans.{request_cmp, copies, rest, request, asked_along, asked, field_plan, box_plan, box_plans, all_asked, requests}
-use Rattle.samr_fill.specs.declared.parcel.Parcel.{Parcel}
+use Rattle.samr_data.specs.declared.parcel.Parcel.{Parcel}
 use Rattle.samr_fill.specs.Filling.{Filling}
 use Rattle.samr_fill.specs.Parcels.{copied_along, answered, parcels}
 

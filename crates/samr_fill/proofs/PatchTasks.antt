@@ -20,7 +20,7 @@ use Rattle.samr_sched.specs.declared.plan.Plan.{Plan}
 use Rattle.samr_sched.specs.declared.plan.FieldPlan.{FieldPlan}
 use Rattle.samr_sched.specs.Scheduling.{domain_of}
 use Rattle.samr_sched.specs.Plans.{rest, plan_of}
-use Rattle.samr_fill.specs.declared.parcel.Parcel.{Parcel}
+use Rattle.samr_data.specs.declared.parcel.Parcel.{Parcel}
 use Rattle.samr_fill.specs.Filling.{Filling, value_of}
 use Rattle.samr_fill.specs.Parcels.{parcels}
 use Rattle.samr_fill.specs.Writing.{is_for, any_takes, IsFit, AreOf, Fixes}

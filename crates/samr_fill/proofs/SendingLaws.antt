@@ -35,7 +35,7 @@ use Rattle.samr_sched.specs.declared.plan.FieldPlan.{FieldPlan}
 use Rattle.samr_sched.specs.declared.plan.Plan.{Plan}
 use Rattle.samr_sched.specs.Scheduling.{Scheduling, IsGhost, domain_of, frame_of, coarse_frame}
 use Rattle.samr_sched.specs.Plans.{copies, field_plan, box_plan, box_plans, requests, plan_of}
-use Rattle.samr_fill.specs.declared.parcel.Parcel.{Parcel}
+use Rattle.samr_data.specs.declared.parcel.Parcel.{Parcel}
 use Rattle.samr_fill.specs.Filling.{Filling, IsFilling}
 use Rattle.samr_fill.specs.FillParts.{HasValues, HasPatches}
 use Rattle.samr_fill.specs.Parcels.{copied_along, asked_region, answered, parcels}

@@ -31,7 +31,7 @@ use Rattle.samr_sched.specs.declared.plan.Asked.{Asked}
 use Rattle.samr_sched.specs.declared.plan.Plan.{Plan}
 use Rattle.samr_sched.specs.Scheduling.{Scheduling, IsScheduling, frame_of, coarse_frame, selves_of, downs_of, selves, ups, downs}
 use Rattle.samr_sched.specs.Plans.{request_cmp, copies, field_plan, box_plan, box_plans, all_asked, requests, others, plan_of}
-use Rattle.samr_fill.specs.declared.parcel.Parcel.{Parcel}
+use Rattle.samr_data.specs.declared.parcel.Parcel.{Parcel}
 use Rattle.samr_fill.specs.Filling.{Filling, IsFilling}
 use Rattle.samr_fill.specs.FillParts.{HasValues, HasPatches}
 use Rattle.samr_fill.specs.Parcels.{copied_along, answered, parcels, sends, hears, fill_row}

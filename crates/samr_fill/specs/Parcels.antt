@@ -14,7 +14,7 @@ use Rattle.samr_peers.specs.Peers.{peer_row}
 use Rattle.samr_sched.specs.declared.plan.Request.{Request}
 use Rattle.samr_sched.specs.Scheduling.{Scheduling, frame_of, coarse_frame, selves, ups, downs}
 use Rattle.samr_sched.specs.Plans.{copies, requests}
-use Rattle.samr_fill.specs.declared.parcel.Parcel.{Parcel}
+use Rattle.samr_data.specs.declared.parcel.Parcel.{Parcel}
 use Rattle.samr_fill.specs.Filling.{Filling}
 
 -- along an edge to a box of the level: the values of those cells of the base that are ghost cells of the head

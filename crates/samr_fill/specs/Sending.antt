@@ -17,7 +17,7 @@ use Rattle.samr_sched.specs.declared.plan.FieldPlan.{FieldPlan}
 use Rattle.samr_sched.specs.declared.plan.BoxPlan.{BoxPlan}
 use Rattle.samr_sched.specs.declared.plan.Asked.{Asked}
 use Rattle.samr_sched.specs.declared.plan.Plan.{Plan}
-use Rattle.samr_fill.specs.declared.parcel.Parcel.{Parcel}
+use Rattle.samr_data.specs.declared.parcel.Parcel.{Parcel}
 
 -- what an option gives, and nothing where there is none
 abbrev pub for_some : {X Y : Type 0} → Option X → (X → List Y) → List Y

@@ -9,7 +9,7 @@ use Rattle.samr_ops.specs.declared.rules.Rules.{Rules}
 use Rattle.samr_peers.specs.Peers.{other_owners}
 use Rattle.samr_sched.specs.declared.plan.Plan.{Plan}
 use Rattle.samr_sched.specs.Plans.{plan_of}
-use Rattle.samr_fill.specs.declared.parcel.Parcel.{Parcel}
+use Rattle.samr_data.specs.declared.parcel.Parcel.{Parcel}
 use Rattle.samr_fill.specs.Filling.{Filling, IsFilling}
 use Rattle.samr_fill.specs.FillParts.{HasValues}
 use Rattle.samr_fill.specs.Parcels.{parcels, hears, fill_row}

@@ -11,7 +11,7 @@ use Rattle.samr_sched.specs.declared.plan.Plan.{Plan}
 use Rattle.samr_sched.specs.declared.plan.BoxPlan.{BoxPlan}
 use Rattle.samr_sched.specs.declared.plan.FieldPlan.{FieldPlan}
 use Rattle.samr_sched.specs.Plans.{plan_of, box_plan, field_plan}
-use Rattle.samr_fill.specs.declared.parcel.Parcel.{Parcel}
+use Rattle.samr_data.specs.declared.parcel.Parcel.{Parcel}
 use Rattle.samr_fill.specs.Filling.{Filling, IsFilling, value_of}
 use Rattle.samr_fill.specs.FillParts.{HasValues}
 use Rattle.samr_fill.specs.Parcels.{parcels}

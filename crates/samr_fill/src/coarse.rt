@@ -11,10 +11,9 @@ ghost use Rattle.samr_ops.specs.Rules.{IsOffset, refined_value};
 ghost use Rattle.samr_fill.specs.Filling.{child};
 ghost use Rattle.samr_fill.specs.Writing.{refined_at, takes_from, any_takes_from, takes, taken, AreOf, Fixes};
 
-use crate::Parcel;
 use crate::parts::part_of;
 use samr_box::{IBox, IVec, Ratio, coarsen_cell};
-use samr_data::Patch;
+use samr_data::{Parcel, Patch};
 use samr_ops::{Bounds, Refines, Strategy, Updates};
 use samr_sched::Plan;
 use std::alloc::{AllocError as NoMemory, Global};

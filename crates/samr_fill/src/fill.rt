@@ -9,12 +9,11 @@ ghost use Rattle.samr_fill.specs.Parcels.{fill_row};
 ghost use Rattle.samr_fill.specs.Staging.{IsReady, HasLetters};
 ghost use Rattle.samr_fill.specs.StageLaws.{fill_between};
 
-use crate::Parcel;
 use crate::filling::fill_fields;
 use crate::letters::{asked_of_itself, letters_for, ranks_of, united};
 use crate::sending::parcels_for;
 use samr_box::Listed;
-use samr_data::Patch;
+use samr_data::{Parcel, Patch};
 use samr_ops::{Bounds, Refines, Strategy, Updates};
 use samr_sched::Plan;
 use samr_stage::{Held, Stage};

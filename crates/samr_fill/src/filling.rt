@@ -6,11 +6,10 @@ ghost use Rattle.samr_fill.specs.Filling.{Filling, value_of};
 ghost use Rattle.samr_fill.specs.FillParts.{filled_field, filled};
 ghost use Rattle.samr_fill.specs.Tasks.{IsCopyOf, IsPatchOf, IsBoxOf, IsField, AreFields};
 
-use crate::Parcel;
 use crate::ending::ended;
 use crate::writing::write_all;
 use samr_box::{IVec, Listed};
-use samr_data::Patch;
+use samr_data::{Parcel, Patch};
 use samr_level::BoxRef;
 use samr_ops::{Bounds, Refines, Strategy, Updates};
 use samr_sched::{BoxPlan, FieldPlan, Plan};

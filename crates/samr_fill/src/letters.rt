@@ -3,10 +3,9 @@ ghost use Rattle.std.specs.List.{flat_map, find};
 ghost use Rattle.std.specs.Option.{option_copied};
 ghost use Rattle.samr_fill.specs.Sending.{asked_by, asked_of_itself, united, parcels_from, letters_from};
 
-use crate::Parcel;
 use crate::sending::parcels_for;
 use samr_box::Listed;
-use samr_data::Patch;
+use samr_data::{Parcel, Patch};
 use samr_level::Edge;
 use samr_sched::{Asked, BoxPlan, FieldPlan, Plan, Request};
 use std::alloc::{AllocError as NoMemory, Global};

@@ -11,7 +11,6 @@ mod fill;
 mod filling;
 mod laws;
 mod letters;
-mod parcel;
 mod parts;
 mod sending;
 mod writing;
@@ -19,7 +18,6 @@ mod writing;
 pub use all_fills::fill_all;
 pub use fill::Fill;
 pub use laws::{copies_agree, the_level_keeps_its_values, values_fit, values_of_rows};
-pub use parcel::Parcel;
 
 #[cfg(test)]
 mod tests;

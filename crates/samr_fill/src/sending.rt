@@ -6,10 +6,9 @@ ghost use Rattle.samr_box.specs.Space.{image};
 ghost use Rattle.samr_data.specs.Grids.{packed};
 ghost use Rattle.samr_fill.specs.Sending.{parcel_of, copied_from, place_copies, field_copies, box_copies, all_copies, is_box, answer_of, answer_in, answer_from, parcels_from};
 
-use crate::Parcel;
 use crate::parts::{near_image, part_moved_back};
 use samr_box::{Domain, IBox, Listed, Shift};
-use samr_data::Patch;
+use samr_data::{Parcel, Patch};
 use samr_level::Edge;
 use samr_sched::{BoxPlan, Plan, Request};
 use std::alloc::{AllocError as NoMemory, Global};

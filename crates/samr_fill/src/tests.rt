@@ -1,9 +1,8 @@
 ghost use Rattle.std.specs.Prelude.{◌<◌};
 
-use crate::Parcel;
 use crate::sending::parcels_for;
 use samr_box::{Domain, Flags, IBox, IVec, Listed, Ratio, Shift, coarsen_cell, holds_box};
-use samr_data::Patch;
+use samr_data::{Parcel, Patch};
 use samr_level::{BoxRef, Edge};
 use samr_sched::{Asked, BoxPlan, FieldPlan, Plan, Request};
 use std::alloc::Global;

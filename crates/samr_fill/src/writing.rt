@@ -8,14 +8,13 @@ ghost use Rattle.samr_box.specs.Lists.{Member};
 ghost use Rattle.samr_level.specs.RefOrders.{ref_cmp};
 ghost use Rattle.samr_data.specs.Values.{value_in};
 ghost use Rattle.samr_data.specs.Grids.{over, written, copied};
-ghost use Rattle.samr_fill.specs.declared.parcel.Parcel.{Parcel as ParcelOf};
+ghost use Rattle.samr_data.specs.declared.parcel.Parcel.{Parcel as ParcelOf};
 ghost use Rattle.samr_fill.specs.Writing.{target, takes, is_for, any_takes, IsFit, AreOf, Fixes};
 
-use crate::Parcel;
 use crate::coarse::write_coarse;
 use crate::parts::moved_back;
 use samr_box::{Domain, IBox};
-use samr_data::Patch;
+use samr_data::{Parcel, Patch};
 use samr_level::{BoxRef, Edge};
 use samr_ops::{Bounds, Refines, Strategy, Updates};
 use samr_sched::Plan;

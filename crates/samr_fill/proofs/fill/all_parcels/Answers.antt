@@ -5,7 +5,7 @@ use Rattle.std.proofs.lemmas.List.{map-id}
 use Rattle.std.specs.Prelude.{List}
 use Rattle.std.specs.List.{flat_map}
 use Rattle.samr_stage.specs.declared.stage.Held.{Held}
-use Rattle.samr_fill.specs.declared.parcel.Parcel.{Parcel}
+use Rattle.samr_data.specs.declared.parcel.Parcel.{Parcel}
 use Rattle.samr_fill.proofs.Steps.{bodies_more}
 use Rattle.samr_fill.proofs.fill.all_parcels.Goals as goal
 

@@ -5,7 +5,7 @@ use Rattle.std.specs.Option.{option_copied}
 use Rattle.samr_level.specs.Refs.{Owned}
 use Rattle.samr_sched.specs.declared.plan.Request.{Request}
 use Rattle.samr_data.specs.Grids.{Grid}
-use Rattle.samr_fill.specs.declared.parcel.Parcel.{Parcel}
+use Rattle.samr_data.specs.declared.parcel.Parcel.{Parcel}
 use Rattle.samr_fill.specs.Sending.{then_some, is_box, answer_of}
 use Rattle.samr_fill.proofs.sending.answer_in.Goals as goal
 

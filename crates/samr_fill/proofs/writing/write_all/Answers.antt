@@ -4,7 +4,7 @@ use Rattle.std.specs.Prelude.{Bool, true, ◌&&◌, List}
 use Rattle.samr_box.specs.declared.vector.IVec.{IVec}
 use Rattle.samr_box.specs.Corners.{Corners, holds_box}
 use Rattle.samr_data.specs.Grids.{over}
-use Rattle.samr_fill.specs.declared.parcel.Parcel.{Parcel}
+use Rattle.samr_data.specs.declared.parcel.Parcel.{Parcel}
 use Rattle.samr_fill.specs.Writing.{is_for, takes, taken, any_takes, IsFit, Fixes}
 use Rattle.samr_fill.proofs.Fixing.{fixes_over, fixes_more}
 use Rattle.samr_fill.proofs.Numbered.{at_member}

@@ -2,7 +2,7 @@ use Rattle.std.proofs.Common.{◌≡◌, ℕ, true, take}
 use Rattle.samr_box.specs.declared.vector.IVec.{IVec}
 use Rattle.samr_box.specs.Lists.{Member}
 use Rattle.samr_data.specs.Grids.{over}
-use Rattle.samr_fill.specs.declared.parcel.Parcel.{Parcel}
+use Rattle.samr_data.specs.declared.parcel.Parcel.{Parcel}
 use Rattle.samr_fill.specs.Writing.{is_for, any_takes, AreOf, Fixes}
 use Rattle.samr_fill.proofs.writing.write_all.Given as goal
 
