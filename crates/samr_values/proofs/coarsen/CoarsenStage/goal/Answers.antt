@@ -1,0 +1,8 @@
+use Rattle.std.proofs.Common.{ap, ◌∙◌, length, arith}
+use Rattle.samr_values.proofs.Ends.{awaits}
+use Rattle.samr_values.proofs.coarsen.CoarsenStage.goal.Goals as goal
+
+pub returns : goal.returns
+returns c = λ w rank h.
+    let e = ap length h.same_senders ∙ awaits w rank h.is h.within in
+    omega (arith, c.len.ensures, c.args.self.now.senders.ok.0, e)

@@ -1,0 +1,5 @@
+use Rattle.samr_values.proofs.RowProofs.{values_of_rows}
+use Rattle.samr_values.proofs.laws.values_of_rows.Goals as goal
+
+pub returns : goal.returns
+returns c = values_of_rows

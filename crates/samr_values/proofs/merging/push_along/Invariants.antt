@@ -1,0 +1,9 @@
+use Rattle.std.proofs.Common.{◌≡◌, ℕ, ◌++◌, take}
+use Rattle.std.specs.List.{filter_map}
+use Rattle.samr_box.specs.declared.vector.IVec.{IVec}
+use Rattle.samr_values.specs.Patches.{HasField}
+use Rattle.samr_values.specs.Merging.{merged_along}
+use Rattle.samr_values.proofs.merging.push_along.Given as goal
+
+abbrev pub invariant-loop-e : goal.invariant-loop-e
+invariant-loop-e l = (v : IVec → ℕ) → HasField v l.patches → l.parcels.items ≡ l.fn.parcels.items ++ filter_map (λ e. merged_along l.m v e) (take l.e-index l.edges)

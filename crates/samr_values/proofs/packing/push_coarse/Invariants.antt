@@ -1,0 +1,9 @@
+use Rattle.std.proofs.Common.{◌≡◌, ℕ, ◌++◌, take}
+use Rattle.std.specs.List.{filter_map}
+use Rattle.samr_box.specs.declared.vector.IVec.{IVec}
+use Rattle.samr_values.specs.Patches.{HasField}
+use Rattle.samr_values.specs.Renewals.{coarse_parcel}
+use Rattle.samr_values.proofs.packing.push_coarse.Given as goal
+
+abbrev pub invariant-loop-e : goal.invariant-loop-e
+invariant-loop-e l = (v : IVec → ℕ) → HasField v l.patches → l.parcels.items ≡ l.fn.parcels.items ++ filter_map (λ e. coarse_parcel l.field l.step v e) (take l.e-index l.edges)

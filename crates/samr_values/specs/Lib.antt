@@ -1,0 +1,14 @@
+pub mod Patches
+pub mod Parcels
+pub mod Renewing
+pub mod Renewals
+pub mod Former
+pub mod StageLaws
+pub mod Coarsening
+pub mod Coarsenings
+pub mod Merging
+pub mod CoarsenLaws
+pub mod AllCoarsenings
+pub mod AllValues
+pub mod Laws
+pub mod Rows
