@@ -22,3 +22,6 @@ pub use all_values::values_all;
 pub use coarsen::Coarsen;
 pub use laws::{merged_values_fit, new_values_fit, others_keep_theirs, values_of_rows};
 pub use values::Values;
+
+#[cfg(test)]
+mod tests;
