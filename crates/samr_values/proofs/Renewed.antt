@@ -34,7 +34,7 @@ use Rattle.samr_values.proofs.Written.{not_true}
 use Rattle.samr_values.proofs.Under.{any_is, any_from, some_and, near_above, near_same}
 use Rattle.samr_values.proofs.Telling.{is_for_it, same_number}
 use Rattle.samr_values.proofs.Ends.{own_from}
-use Rattle.samr_values.proofs.Regions.{item_at, old_is_parcel, coarse_is_parcel, old_told, coarse_told}
+use Rattle.samr_values.proofs.Regions.{old_is_parcel, coarse_is_parcel, old_told, coarse_told}
 use Rattle.samr_values.proofs.Sent.{row_is, sends_turn, coarse_turn, IsOld, IsCoarse, from_parcels, old_in, coarse_in}
 
 module _ (w : Renewing) (t : IsRenewing w) where
@@ -154,7 +154,7 @@ module _ (w : Renewing) (t : IsRenewing w) where
         → Refinable f q b.bx (parcels_with own_parcels held)
     all_refinable f q b got mb = λ p c m test hc.
         let s = coarse_is f b.bx p c m test hc in
-        subst (λ (v : ℕ). v < q.modulus) (sym s.1) (t.coarse_fits f q c (item_at w.rules f q got) s.0)
+        subst (λ (v : ℕ). v < q.modulus) (sym s.1) (t.coarse_fits f q c got s.0)
 
     -- a cell of the box has a value under it, and one of its own where the old level has it
     told_under : (f : ℕ) (b : Owned) (x : IVec) → f < length w.rules → Member b w.news → b.owner ≡ r → Holds b.bx x

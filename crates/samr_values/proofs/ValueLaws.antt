@@ -38,7 +38,7 @@ new_values_fit w f r x is here new old_fits = by (has w.olds x) refl
     cell = coarse x w.step
 
     under : w.coarse_values f cell < r.modulus
-    under = is.coarse_fits f r cell m (is.over x new)
+    under = is.coarse_fits f r cell here (is.over x new)
 
     by : (t : Bool) → has w.olds x ≡ t → cond t (w.values f x) (refined_value r (w.coarse_values f cell) (child x w.step)) < r.modulus
     by true e = let b = any_from (λ (b : Owned). holds b.bx x) w.olds e in old_fits (b.0, b.1, Holds-test {b = b.0.bx} {x = x} b.2)

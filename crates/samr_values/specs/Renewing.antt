@@ -1,5 +1,5 @@
 -- The values of a new level: old ones where the old level of its number has the cell, else refined ones of the level below.
-use Rattle.std.specs.Prelude.{◌≡◌, ℕ, ◌<◌, ◌^◌, pos, cond, List, map, if◌then◌else◌}
+use Rattle.std.specs.Prelude.{◌≡◌, ℕ, ◌<◌, ◌^◌, pos, cond, List, map, slice_get, Some, if◌then◌else◌}
 use Rattle.std.specs.List.{All, enumerate_from}
 use Rattle.samr_box.specs.declared.vector.IVec.{IVec}
 use Rattle.samr_box.specs.Vector.{alike, times, AtMost, IsRatio}
@@ -61,7 +61,7 @@ pub record IsRenewing (w : Renewing) : Type 0 where
   pub over : (x : IVec) → IsCellIn w.news x → IsCellIn w.coarser (coarse x w.step)
   pub rules : All IsRules w.rules
   pub room : (b : Owned) (r : Rules) → Member b w.news → Member r w.rules → IsBox (grown b.bx r.width) × (cells_of (grown b.bx r.width) < 2 ^ 62)
-  pub coarse_fits : (f : ℕ) (r : Rules) (x : IVec) → Member r w.rules → IsCellIn w.coarser x → w.coarse_values f x < r.modulus
+  pub coarse_fits : (f : ℕ) (r : Rules) (x : IVec) → slice_get w.rules f ≡ Some r → IsCellIn w.coarser x → w.coarse_values f x < r.modulus
 
 -- the edges of a rank's old boxes, and of its boxes of the level below, to the new level; and those of its new boxes to both
 abbrev pub old_ups : Renewing → ℕ → List Link
