@@ -1,4 +1,5 @@
 pub mod Plain
+pub mod Counted
 pub mod Requests
 pub mod FieldLaws
 pub mod PlanLaws
@@ -11,3 +12,7 @@ pub mod OneOrigin
 pub mod DownNear
 pub mod PlanTells
 pub mod FitPlans
+pub mod CellCounts
+pub mod Pieces
+pub mod KeptRows
+pub mod RowCounts

@@ -36,7 +36,7 @@ quotient_is c s f h e =
     (ap (λ (v : ℤ). floor v c.i) (mul_comm c.i s.i) ∙ floor-mul c.i s.i (let low = h.low.i in omega (arith, ints, low)))
 
 -- a numbered list with one member more
-enumerate_push : {X : Type 0} (n : ℕ) (xs : List X) (x : X) → enumerate_from n (xs ++ x ∷ []) ≡ enumerate_from n xs ++ (n + length xs, x) ∷ []
+pub enumerate_push : {X : Type 0} (n : ℕ) (xs : List X) (x : X) → enumerate_from n (xs ++ x ∷ []) ≡ enumerate_from n xs ++ (n + length xs, x) ∷ []
 enumerate_push {X} n [] x = ap (λ (k : ℕ). (let p : ℕ × X = (k, x) in p) ∷ []) (omega arith)
 enumerate_push {X} n (y ∷ ys) x =
     ap (λ (l : List (ℕ × X)). (n, y) ∷ l) (enumerate_push (n + 1) ys x ∙ ap (λ (k : ℕ). enumerate_from (n + 1) ys ++ (k, x) ∷ []) (omega arith))

@@ -52,12 +52,12 @@ if_not : {X : Type 0} (t : Bool) (xs : List X) → cond t [] xs ≡ cond (not t)
 if_not true xs = refl
 if_not false xs = refl
 
-and_not_from : (t u : Bool) → t ≡ true → u ≡ false → (t && not u) ≡ true
+pub and_not_from : (t u : Bool) → t ≡ true → u ≡ false → (t && not u) ≡ true
 and_not_from true false e f = refl
 and_not_from true true e f = absurd (false≢true (sym f))
 and_not_from false u e f = absurd (false≢true e)
 
-not_parts : (t u : Bool) → (t && not u) ≡ true → (t ≡ true) × (u ≡ false)
+pub not_parts : (t u : Bool) → (t && not u) ≡ true → (t ≡ true) × (u ≡ false)
 not_parts true false e = (refl, refl)
 not_parts true true e = absurd (false≢true e)
 not_parts false u e = absurd (false≢true e)
@@ -78,14 +78,14 @@ module _ (w : Scheduling) (h : IsScheduling w) (b : Owned) (g x : IVec) (m : Mem
   plain : IsPlain (domain_of w)
   plain axis e = ap (map (λ (p : Corners). refined p w.ratio)) (h.plain axis e)
 
-  inside_is : held x (needed (domain_of w) (grown b.bx g)) ≡ is_inside (domain_of w) x
+  pub inside_is : held x (needed (domain_of w) (grown b.bx g)) ≡ is_inside (domain_of w) x
   inside_is =
       let law = needed_at (domain_of w) (grown b.bx g) x h.area plain in
       same_test (held x (needed (domain_of w) (grown b.bx g))) (is_inside (domain_of w) x)
       (λ t. let i = (law.0 t).1 in held-from (wrapped (frame_of w) x) i.0 (boxes_of (domain_of w)) i.1 i.2)
       (λ t. law.1 (has, inside_from w h b g x m n has t))
 
-  rest_is : held x (rest w g b) ≡ (is_inside (domain_of w) x && not (in_level w x))
+  pub rest_is : held x (rest w g b) ≡ (is_inside (domain_of w) x && not (in_level w x))
   rest_is =
       let law = hole_at (domain_of w) w.ranks w.level (grown b.bx g) x h.area h.level plain (near w h b g x m n has) in
       same_test (held x (rest w g b)) (is_inside (domain_of w) x && not (in_level w x))
@@ -100,7 +100,7 @@ module _ (w : Scheduling) (h : IsScheduling w) (b : Owned) (g x : IVec) (m : Mem
 
   module _ (off : holds b.bx x ≡ false) where
     -- the image of a box that has the ghost cell does not meet the box
-    apart : (e : Link) → Member e.head w.level → Member e.shift (shifts (frame_of w).periodic) → holds (image (frame_of w) e.head.bx e.shift) x ≡ true
+    pub apart : (e : Link) → Member e.head w.level → Member e.shift (shifts (frame_of w).periodic) → holds (image (frame_of w) e.head.bx e.shift) x ≡ true
         → meets (image (frame_of w) e.head.bx e.shift) b.bx ≡ false
     apart e hm sm hx =
         let F = frame_of w in

@@ -6,3 +6,4 @@ pub mod Asking
 pub mod AllAsking
 pub mod StageLaws
 pub mod Laws
+pub mod PlanRows

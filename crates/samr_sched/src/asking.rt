@@ -41,7 +41,7 @@ fn met_image(d: &Domain, b: IBox, h: IBox, s: Shift) -> Option<IBox>
 }
 
 /// The part of a box that lies in the image of an edge's head, if there is one.
-fn in_head(d: &Domain, e: Edge, b: IBox) -> Option<IBox>
+pub fn in_head(d: &Domain, e: Edge, b: IBox) -> Option<IBox>
     ensures { result ≡ met b (image d.now e.head.bx e.shift) }
 {
     met_image(d, b, e.head.bx, e.shift)

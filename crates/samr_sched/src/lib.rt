@@ -12,12 +12,20 @@ mod laws;
 mod making;
 mod origin;
 mod plan;
+mod row;
+mod rows;
 
 pub use all_asks::ask_all;
 pub use ask::Ask;
 pub use laws::{each_has_one_origin, plans_tell_origins};
 pub use origin::Origin;
 pub use plan::{Asked, BoxPlan, FieldPlan, Plan, Request};
+pub use row::Row;
+pub use rows::plan_rows;
 
+#[cfg(test)]
+mod planned;
+#[cfg(test)]
+mod row_tests;
 #[cfg(test)]
 mod tests;
