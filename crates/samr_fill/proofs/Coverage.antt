@@ -117,10 +117,10 @@ module _ (w : Filling) (is : IsFilling w) (rank : ℕ) (b : Owned) (n : ℕ) (r 
   own_of o k level m e = Member-filter (λ (v : Owned). nat_eq v.owner k) o level m (eq-eqb o.owner k e)
 
   taken_of : (p : Parcel) (x : IVec) → Member p all → p.edge.head ≡ b → p.field ≡ n → takes (plan_of w.schedule rank) (rest w.schedule r.width b) p x ≡ true
-      → any_takes (plan_of w.schedule rank) (rest w.schedule r.width b) b n all x ≡ true
+      → any_takes (plan_of w.schedule rank) (rest w.schedule r.width b) (filter (λ q. is_for b n q) all) x ≡ true
   taken_of p x m head same t =
-      any_member (λ (p : Parcel). is_for b n p && takes (plan_of w.schedule rank) (rest w.schedule r.width b) p x) p all m
-      (and_from (is_for b n p) (takes (plan_of w.schedule rank) (rest w.schedule r.width b) p x) (is_for_own b n p head same) t)
+      any_member (λ (p : Parcel). takes (plan_of w.schedule rank) (rest w.schedule r.width b) p x) p (filter (λ q. is_for b n q) all)
+      (Member-filter (λ q. is_for b n q) p all m (is_for_own b n p head same)) t
 
   module _ (x : IVec) (about : Holds (grown b.bx r.width) x) (inside : IsInside (domain_of w.schedule) x) (ghostly : holds b.bx x ≡ false) where
     near : IsNearFrame (frame_of w.schedule) x
@@ -128,7 +128,7 @@ module _ (w : Filling) (is : IsFilling w) (rank : ℕ) (b : Owned) (n : ℕ) (r 
 
     -- a cell of the level
     copy_there : (h : Owned) → Member h w.schedule.level → Holds h.bx (wrapped (frame_of w.schedule) x)
-        → any_takes (plan_of w.schedule rank) (rest w.schedule r.width b) b n all x ≡ true
+        → any_takes (plan_of w.schedule rank) (rest w.schedule r.width b) (filter (λ q. is_for b n q) all) x ≡ true
     unfolding copies copy_parcel
     copy_there h mh has_it =
         let s = w.schedule in
@@ -185,7 +185,7 @@ module _ (w : Filling) (is : IsFilling w) (rank : ℕ) (b : Owned) (n : ℕ) (r 
 
     -- a cell that the level does not have, and the level below has
     under_there : (h : Owned) → Member h w.schedule.coarser → Holds h.bx (wrapped (coarse_frame w.schedule) (coarse x w.schedule.step))
-        → (IsCellIn w.schedule.level (wrapped (frame_of w.schedule) x) → ⊥) → any_takes (plan_of w.schedule rank) (rest w.schedule r.width b) b n all x ≡ true
+        → (IsCellIn w.schedule.level (wrapped (frame_of w.schedule) x) → ⊥) → any_takes (plan_of w.schedule rank) (rest w.schedule r.width b) (filter (λ q. is_for b n q) all) x ≡ true
     under_there h mh has_it none =
         let s = w.schedule in
         let d = coarse_frame s in
@@ -227,7 +227,7 @@ module _ (w : Filling) (is : IsFilling w) (rank : ℕ) (b : Owned) (n : ℕ) (r 
         taken_of (answered w q) x (come h.owner (answered w q) (is.schedule.coarser.owners h mh) sent) refl refl
         (and_from (not true || held x (rest s r.width b)) (holds (moved_back region (times t d.size)) z) free (holds-from in_moved))
 
-    pub covered : any_takes (plan_of w.schedule rank) (rest w.schedule r.width b) b n all x ≡ true
+    pub covered : any_takes (plan_of w.schedule rank) (rest w.schedule r.width b) (filter (λ q. is_for b n q) all) x ≡ true
     covered =
         let s = w.schedule in
         let y = wrapped (frame_of s) x in

@@ -1,5 +1,6 @@
 pub mod Corners
 pub mod Steps
+pub mod OrderLaws
 pub mod Fixing
 pub mod Numbers
 pub mod Scales
@@ -16,6 +17,7 @@ pub mod Copies
 pub mod PatchTasks
 pub mod FieldTasks
 pub mod SendingLaws
+pub mod BoxSearch
 pub mod Stages
 pub mod RowProofs
 pub mod ValueLaws

@@ -1,7 +1,7 @@
 -- What is known of the patch of a box while it is filled.
 use Rattle.std.proofs.Common.{◌≡◌, ℕ, ◌<◌, refl, sym, ap, ◌∙◌, subst, length, get_or}
 use Rattle.std.proofs.lemmas.Bool.{and_from, eqb-true}
-use Rattle.std.specs.Prelude.{pos, Bool, true, false, IsTrue, List, Some, slice_get, filter, nat_eq}
+use Rattle.std.specs.Prelude.{pos, Bool, false, IsTrue, List, Some, slice_get, filter, nat_eq}
 use Rattle.std.specs.List.{All}
 use Rattle.samr_box.specs.declared.vector.IVec.{IVec}
 use Rattle.samr_box.specs.Vector.{alike, AtMost, at_most}
@@ -60,19 +60,21 @@ module _ (plan : Plan) (all : List Parcel) (n : ℕ) (r : Rules) (b : Owned) (fp
   pub small_step : AtMost plan.step (alike (pos 4))
   small_step = subst (λ (p : Plan). AtMost p.step (alike (pos 4))) (sym h.has.same_plan) h.has.is.step
 
-  pub all_fit : (copy : Grid) → IsCopyOf patch copy → (p : Parcel) → Member p all → is_for b n p ≡ true → IsFit plan.frame r (over copy) p
-  all_fit copy k p m t =
-      let from = h.has.known p m in
+  pub all_fit : (copy : Grid) → IsCopyOf patch copy → (mine : List Parcel) → mine ≡ filter (λ q. is_for b n q) all → (p : Parcel) → Member p mine → IsFit plan.frame r (over copy) p
+  all_fit copy k mine are p m =
+      let found = Member-from_filter (λ q. is_for b n q) p all (subst (λ (ps : List Parcel). Member p ps) are m) in
+      let from = h.has.known p found.0 in
       subst (λ (q : Plan). IsFit q.frame r (over copy) p) (sym h.has.same_plan)
       (subst (λ (c : Corners). IsFit (plan_of w.schedule rank).frame r c p) (sym (whole_of copy k))
-      (parcel_fit w h.has.is rank from.0 b n r h.same_rules member p from.1 t))
+      (parcel_fit w h.has.is rank from.0 b n r h.same_rules member p from.1 found.1))
 
-  pub all_true : (l : List Corners) → l ≡ fp.rest → (p : Parcel) → Member p all → is_for b n p ≡ true → AreOf (value_of w (n, r)) plan r l p
-  all_true l e p m t =
-      let from = h.has.known p m in
+  pub all_true : (l : List Corners) → l ≡ fp.rest → (mine : List Parcel) → mine ≡ filter (λ q. is_for b n q) all → (p : Parcel) → Member p mine → AreOf (value_of w (n, r)) plan r l p
+  all_true l e mine are p m =
+      let found = Member-from_filter (λ q. is_for b n q) p all (subst (λ (ps : List Parcel). Member p ps) are m) in
+      let from = h.has.known p found.0 in
       subst (λ (q : Plan). AreOf v q r l p) (sym h.has.same_plan)
       (subst (λ (xs : List Corners). AreOf v (plan_of w.schedule rank) r xs p) (sym (e ∙ ap (λ (f : FieldPlan). f.rest) h.same_plan))
-      (parcel_true w h.has.is rank from.0 b n r h.same_rules member p from.1 t))
+      (parcel_true w h.has.is rank from.0 b n r h.same_rules member p from.1 found.1))
 
   pub can : (copy new : Grid) (wrote : IVec → Bool) → IsCopyOf patch copy → Fixes (value_of w (n, r)) wrote copy new → (x : IVec) → Holds (over new) x → CanEnd plan r new x
   can copy new wrote k f x q =
@@ -80,16 +82,17 @@ module _ (plan : Plan) (all : List Parcel) (n : ℕ) (r : Rules) (b : Owned) (fp
       (can_end w h.has.is rank b n r h.same_rules member new (fixes_over v wrote copy new f ∙ whole_of copy k) x q)
 
   pub done : (copy new q : Grid) (l inside : List Corners) → l ≡ fp.rest → inside ≡ fp.inside → IsCopyOf patch copy
-      → Fixes (value_of w (n, r)) (any_takes plan l b n all) copy new → q ≡ written new (ended_at plan inside n r new)
+      → (mine : List Parcel) → mine ≡ filter (λ q. is_for b n q) all → Fixes (value_of w (n, r)) (any_takes plan l mine) copy new → q ≡ written new (ended_at plan inside n r new)
       → q ≡ grid_of b.bx r.width (value_of w (n, r))
-  done copy new q l inside e i k f made =
+  done copy new q l inside e i k mine are f made =
       let s = w.schedule in
       let p = plan_of s rank in
-      let takes : IVec → Bool = any_takes plan l b n all in
-      let takes_is : (x : IVec) → takes x ≡ any_takes p (rest s r.width b) b n all x =
+      let takes : IVec → Bool = any_takes plan l mine in
+      let takes_is : (x : IVec) → takes x ≡ any_takes p (rest s r.width b) (filter (λ q. is_for b n q) all) x =
       λ x.
-      ap (λ (q : Plan). any_takes q l b n all x) h.has.same_plan
-      ∙ ap (λ (xs : List Corners). any_takes p xs b n all x) (e ∙ ap (λ (f : FieldPlan). f.rest) h.same_plan) in
+      ap (λ (q : Plan). any_takes q l mine x) h.has.same_plan
+      ∙ ap (λ (xs : List Corners). any_takes p xs mine x) (e ∙ ap (λ (f : FieldPlan). f.rest) h.same_plan)
+      ∙ ap (λ (ps : List Parcel). any_takes p (rest s r.width b) ps x) are in
       let right : (x : IVec) → Holds (grown b.bx r.width) x → IsInside (domain_of s) x → value_at new x ≡ v x =
       λ x about there.
       let here = subst (λ (c : Corners). Holds c x) (sym (whole_of copy k)) about in

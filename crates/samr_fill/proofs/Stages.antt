@@ -5,6 +5,7 @@ use Rattle.std.proofs.lemmas.Cmp.{nat_cmp_total}
 use Rattle.std.specs.Ordering.{nat_cmp}
 use Rattle.std.specs.Prelude.{◌↔◌, Bool, true, false, cond, List, [], ◌∷◌, ◌++◌, map, filter, Option, Some, None, nat_eq, slice_get}
 use Rattle.std.specs.List.{flat_map, filter_map, enumerate_from, find}
+use Rattle.std.specs.List.Sorted.{IsPermutation}
 use Rattle.samr_box.specs.declared.vector.IVec.{IVec}
 use Rattle.samr_box.specs.Corners.{Holds}
 use Rattle.samr_box.specs.Lists.{Member}
@@ -37,7 +38,9 @@ use Rattle.samr_fill.specs.FillParts.{HasValues, HasPatches}
 use Rattle.samr_fill.specs.Parcels.{copied_along, answered, parcels, sends, hears, fill_row}
 use Rattle.samr_fill.specs.Sending.{for_some, all_copies, answer_from, parcels_from, asked_by, asked_of_itself, united, letters_from}
 use Rattle.samr_fill.specs.Staging.{IsReady, HasLetters}
+use Rattle.samr_fill.specs.Orders.{AreInOrder}
 use Rattle.samr_fill.specs.Tasks.{HasParcels, IsPatch, IsField, AreFields}
+use Rattle.samr_fill.proofs.OrderLaws.{member_after, member_before}
 use Rattle.samr_fill.proofs.Numbered.{some_same, none_some, get_member}
 use Rattle.samr_fill.proofs.ParcelLaws.{request_total, same_from_request_cmp, IsCopied, IsAnswer, IsRequested, from_requests, from_parcels}
 use Rattle.samr_fill.proofs.Truths.{own_box, width_at, copy_edge, copy_self, down_edge}
@@ -287,8 +290,8 @@ module _ (w : Filling) (is : IsFilling w) (r : ℕ) where
 module _ (plan : Plan) (patches : List (List Grid)) (rules : List Rules) (mine : List Parcel) (senders : List ℕ) (w : Filling) (r : ℕ)
     (h : IsReady plan patches rules mine senders w r) where
   pub has_parcels : (held : List (Held (List Parcel))) → held ≡ heard (column (fill_row w) r) w.schedule.ranks → (all : List Parcel)
-      → all ≡ mine ++ flat_map (λ letter. letter.body) held → HasParcels plan all w r
-  has_parcels held are all is =
+      → all ≡ mine ++ flat_map (λ letter. letter.body) held → (sorted : List Parcel) → IsPermutation all sorted → AreInOrder sorted → HasParcels plan sorted w r
+  has_parcels held are all is sorted same order =
       let ranks = w.schedule.ranks in
       let turns = edges_turn w h.is in
       let body : Held (List Parcel) → List Parcel = λ letter. letter.body in
@@ -298,7 +301,7 @@ module _ (plan : Plan) (patches : List (List Grid)) (rules : List Rules) (mine :
         within = h.within;
         same_plan = h.same_plan;
         known = λ p m.
-            elim (Member-from_append p mine (flat_map body held) (subst (λ (l : List Parcel). Member p l) is m)) [
+            elim (Member-from_append p mine (flat_map body held) (subst (λ (l : List Parcel). Member p l) is (member_before all sorted same p m))) [
               | inl x ↦ (r, (h.own_parcels p).0 x)
               | inr y ↦
                   let letter = Member-from_flat_map body p held y in
@@ -306,7 +309,8 @@ module _ (plan : Plan) (patches : List (List Grid)) (rules : List Rules) (mine :
                   (letter.0.sender, subst (λ (l : List Parcel). Member p l) out.0 letter.2)
             ];
         come = λ from p below m.
-            subst (λ (l : List Parcel). Member p l) (sym is)
+            member_after all sorted same p
+            (subst (λ (l : List Parcel). Member p l) (sym is)
             (elim (cases_eq from r) [
               | inl e ↦ Member-append_left p mine (flat_map body held) ((h.own_parcels p).1 (subst (λ (k : ℕ). Member p (parcels w k r)) e m))
               | inr other ↦
@@ -316,7 +320,8 @@ module _ (plan : Plan) (patches : List (List Grid)) (rules : List Rules) (mine :
                   Member-append_right p mine (flat_map body held)
                   (Member-flat_map body p letter held (subst (λ (l : List (Held (List Parcel))). Member letter l) (sym come_all) there)
                   (subst (λ (k : ℕ). Member p (parcels w k r)) (sym e.2) m))
-            ]);
+            ]));
+        ordered = order;
       }
 
   pub are_fields : (all : List Parcel) → HasParcels plan all w r → AreFields plan all rules patches w r
@@ -377,7 +382,7 @@ has_letters rank ranks plan patches coarser rules w r h copy same letters mine s
 
 pub ready_fields : (plan : Plan) (patches : List (List Grid)) (rules : List Rules) (mine : List Parcel) (senders : List ℕ) (w : Filling) (r : ℕ) → IsReady plan patches rules mine senders w r
     → (held : List (Held (List Parcel))) → held ≡ heard (column (fill_row w) r) w.schedule.ranks → (all : List Parcel) → all ≡ mine ++ flat_map (λ letter. letter.body) held
-    → (l : List Parcel) → l ≡ all → (own : List (List Grid)) → own ≡ patches → AreFields plan l rules own w r
-ready_fields plan patches rules mine senders w r h held are all is l same own e =
+    → (sorted : List Parcel) → IsPermutation all sorted → AreInOrder sorted → (l : List Parcel) → l ≡ sorted → (own : List (List Grid)) → own ≡ patches → AreFields plan l rules own w r
+ready_fields plan patches rules mine senders w r h held are all is sorted same order l at own e =
     subst (λ (p : List (List Grid)). AreFields plan l rules p w r) (sym e)
-    (are_fields plan patches rules mine senders w r h l (has_parcels plan patches rules mine senders w r h held are l (same ∙ is)))
+    (are_fields plan patches rules mine senders w r h l (subst (λ (ps : List Parcel). HasParcels plan ps w r) (sym at) (has_parcels plan patches rules mine senders w r h held are all is sorted same order)))

@@ -3,6 +3,7 @@ pub mod Parcels
 pub mod FillParts
 pub mod Sending
 pub mod Writing
+pub mod Orders
 pub mod Ending
 pub mod Tasks
 pub mod Staging

@@ -1,6 +1,7 @@
 -- The parcels that a rank makes of its own patches, by its plan.
-use Rattle.std.specs.Prelude.{ℕ, Bool, true, false, cond, List, [], ◌∷◌, ◌++◌, map, filter, Option, Some, None, nat_eq, slice_get}
+use Rattle.std.specs.Prelude.{◌≡◌, ℕ, Bool, true, false, cond, List, [], ◌∷◌, ◌++◌, map, filter, Option, Some, None, nat_eq, slice_get}
 use Rattle.std.specs.List.{flat_map, filter_map, enumerate_from, find}
+use Rattle.std.specs.List.Sorted.{IsStrictlySortedBy}
 use Rattle.std.specs.Option.{option_map}
 use Rattle.std.specs.Ordering.{nat_cmp, is_eq}
 use Rattle.samr_box.specs.declared.vector.IVec.{IVec}
@@ -48,6 +49,13 @@ box_copies d to own place b = flat_map (λ f. field_copies d to own place f.0 f.
 
 unfoldable pub all_copies : Space → ℕ → List (List Grid) → List BoxPlan → List Parcel
 all_copies d to own boxes = flat_map (λ b. box_copies d to own b.0 b.1) (enumerate_from 0 boxes)
+
+-- the patches of a field in corner order of their boxes, and so those of each field
+abbrev pub AreByCorner : List Grid → Type 0
+AreByCorner patches = IsStrictlySortedBy corner_cmp (map (λ p. p.bx) patches)
+
+unfoldable pub AllByCorner : List (List Grid) → Type 0
+AllByCorner fields = (f : ℕ) (patches : List Grid) → slice_get fields f ≡ Some patches → AreByCorner patches
 
 -- the answer to a request, of a patch and of that patch of the field whose box it names
 abbrev pub answer_of : Space → Request → Grid → Option Parcel

@@ -15,14 +15,16 @@ use Rattle.samr_data.specs.declared.parcel.Parcel.{Parcel}
 use Rattle.samr_fill.specs.Filling.{Filling, IsFilling, value_of}
 use Rattle.samr_fill.specs.FillParts.{HasValues}
 use Rattle.samr_fill.specs.Parcels.{parcels}
+use Rattle.samr_fill.specs.Orders.{AreInOrder}
 
--- the plan of a rank, and all parcels for it
+-- the plan of a rank, and all parcels for it, in order
 pub record HasParcels (plan : Plan) (all : List Parcel) (w : Filling) (r : ℕ) : Type 0 where
   pub is : IsFilling w
   pub within : r < w.schedule.ranks
   pub same_plan : plan ≡ plan_of w.schedule r
   pub known : (p : Parcel) → Member p all → (from : ℕ) × Member p (parcels w from r)
   pub come : (from : ℕ) (p : Parcel) → from < w.schedule.ranks → Member p (parcels w from r) → Member p all
+  pub ordered : AreInOrder all
 
 -- a patch of a box, whose own cells have the values of a field
 pub record IsPatch (w : Filling) (f : ℕ) (s : Rules) (b : Owned) (p : Grid) : Type 0 where

@@ -68,6 +68,6 @@ pub record Fixes (v : IVec → ℕ) (wrote : IVec → Bool) (old new : Grid) : T
   pub kept : (x : IVec) → Holds (over old) x → value_at old x ≡ v x → value_at new x ≡ v x
   pub right : (x : IVec) → Holds (over old) x → wrote x ≡ true → value_at new x ≡ v x
 
--- the cells that take a value of a parcel for this box and field
-abbrev pub any_takes : Plan → List Corners → Owned → ℕ → List Parcel → IVec → Bool
-any_takes plan rest base field parcels x = list_any (λ p. is_for base field p && takes plan rest p x) parcels
+-- the cells that take a value of a parcel
+abbrev pub any_takes : Plan → List Corners → List Parcel → IVec → Bool
+any_takes plan rest parcels x = list_any (λ p. takes plan rest p x) parcels

@@ -12,6 +12,7 @@ ghost use Rattle.samr_fill.specs.StageLaws.{fill_between};
 use crate::filling::fill_fields;
 use crate::letters::{asked_of_itself, letters_for, ranks_of, united};
 use crate::sending::parcels_for;
+use crate::sorting::in_order;
 use samr_box::Listed;
 use samr_data::{Parcel, Patch};
 use samr_ops::{Bounds, Refines, Strategy, Updates};
@@ -139,7 +140,8 @@ impl<'a, R: Refines, B: Bounds, U: Updates> Stage for Fill<'a, R, B, U> {
             → IsReady self.entry.plan self.entry.own self.entry.strategies.now self.entry.parcels.items self.entry.senders.items w rank
             → held.items ≡ heard (column (fill_row w) rank) w.schedule.ranks → out.items ≡ filled w rank) }
     {
-        let all = all_parcels(self.parcels, held)?;
+        let parcels = all_parcels(self.parcels, held)?;
+        let all = in_order(parcels);
         let done = fill_fields(
             alloc,
             &self.plan,

@@ -7,6 +7,7 @@ ghost use Rattle.samr_fill.specs.FillParts.{filled_field, filled};
 ghost use Rattle.samr_fill.specs.Tasks.{IsCopyOf, IsPatchOf, IsBoxOf, IsField, AreFields};
 
 use crate::ending::ended;
+use crate::sorting::for_box;
 use crate::writing::write_all;
 use samr_box::{IVec, Listed};
 use samr_data::{Parcel, Patch};
@@ -43,7 +44,8 @@ fn fill_patch<R: Refines, B: Bounds, U: Updates>(
 {
     let mut copy = copy_of(alloc, patch)?;
     let rest = field_plan.rest.as_slice();
-    write_all(alloc, &mut copy, plan, base, field, rest, parcels, strategy)?;
+    let own = for_box(parcels, base, field);
+    write_all(alloc, &mut copy, plan, rest, own, strategy)?;
     let inside = field_plan.inside.as_slice();
     let done = ended(alloc, plan, inside, field, &copy, strategy)?;
     Ok(done)

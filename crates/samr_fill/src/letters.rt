@@ -1,7 +1,7 @@
 ghost use Rattle.std.specs.Prelude.{◌≡◌, ◌++◌, ◌<◌, ◌^◌, nat_eq, length, map, filter, IfOk, OnOk};
 ghost use Rattle.std.specs.List.{flat_map, find};
 ghost use Rattle.std.specs.Option.{option_copied};
-ghost use Rattle.samr_fill.specs.Sending.{asked_by, asked_of_itself, united, parcels_from, letters_from};
+ghost use Rattle.samr_fill.specs.Sending.{asked_by, asked_of_itself, united, parcels_from, letters_from, AllByCorner};
 
 use crate::sending::parcels_for;
 use samr_box::Listed;
@@ -85,7 +85,7 @@ pub fn asked_of_itself(
     Ok(requests)
 }
 
-/// All that a rank has for another.
+/// All that a rank has for another. The patches of each field of `coarser` stand in corner order.
 fn parcels_asked(
     alloc: Global,
     plan: &Plan,
@@ -94,18 +94,23 @@ fn parcels_asked(
     to: u16,
 ) -> Result<Vec<Parcel>, NoMemory>
     requires { length own.now < 2 ^ 8 }
-    ensures { IfOk result (λ v. v.items ≡ parcels_from plan.now own.now coarser.now to (asked_by plan.now.others to)) }
+    ensures { IfOk result (λ v. AllByCorner coarser.now → v.items ≡ parcels_from plan.now own.now coarser.now to (asked_by plan.now.others to)) }
 {
     match asked_of(plan.others.as_slice(), to) {
-        Some(asked) => parcels_for(alloc, plan, own, coarser, to, asked.requests.as_slice()),
+        Some(asked) => {
+            let requests = asked.requests.as_slice();
+            let parcels = parcels_for(alloc, plan, own, coarser, to, requests)?;
+            Ok(parcels)
+        }
         None => {
             let nothing = Vec::new(alloc);
-            parcels_for(alloc, plan, own, coarser, to, nothing.as_slice())
+            let parcels = parcels_for(alloc, plan, own, coarser, to, nothing.as_slice())?;
+            Ok(parcels)
         }
     }
 }
 
-/// The letters of these ranks.
+/// The letters of these ranks. The patches of each field of `coarser` stand in corner order.
 #[tactic(auto, unfolding(crate::specs::Sending::letters_from))]
 pub fn letters_for(
     alloc: Global,
@@ -115,7 +120,7 @@ pub fn letters_for(
     ranks: &[u16],
 ) -> Result<Vec<(u16, Listed<Parcel>)>, NoMemory>
     requires { length own.now < 2 ^ 8 }
-    ensures { IfOk result (λ v. v.items ≡ letters_from plan.now own.now coarser.now ranks.now) }
+    ensures { IfOk result (λ v. AllByCorner coarser.now → v.items ≡ letters_from plan.now own.now coarser.now ranks.now) }
 {
     let mut letters = Vec::new(alloc);
     for to in ranks {

@@ -13,6 +13,7 @@ mod laws;
 mod letters;
 mod parts;
 mod sending;
+mod sorting;
 mod writing;
 
 pub use all_fills::fill_all;

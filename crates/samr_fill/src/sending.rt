@@ -4,10 +4,10 @@ ghost use Rattle.std.specs.Option.{option_map, option_copied, option_to_list};
 ghost use Rattle.samr_box.specs.Corners.{holds_box, met, grown};
 ghost use Rattle.samr_box.specs.Space.{image};
 ghost use Rattle.samr_data.specs.Grids.{packed};
-ghost use Rattle.samr_fill.specs.Sending.{parcel_of, copied_from, place_copies, field_copies, box_copies, all_copies, is_box, answer_of, answer_in, answer_from, parcels_from};
+ghost use Rattle.samr_fill.specs.Sending.{parcel_of, copied_from, place_copies, field_copies, box_copies, all_copies, is_box, answer_of, answer_in, answer_from, parcels_from, AreByCorner, AllByCorner};
 
 use crate::parts::{near_image, part_moved_back};
-use samr_box::{Domain, IBox, Listed, Shift};
+use samr_box::{Domain, IBox, Listed, Shift, corner_order};
 use samr_data::{Parcel, Patch};
 use samr_level::Edge;
 use samr_sched::{BoxPlan, Plan, Request};
@@ -220,41 +220,50 @@ fn answer_of(
     }
 }
 
-/// The patch of a box.
+/// The patch of a box, of patches in corner order.
 fn patch_of(patches: &[Patch], b: IBox) -> Option<&Patch>
-    ensures { option_copied result ≡ find (λ p. is_box b p) patches.now }
+    ensures { AreByCorner patches.now → option_copied result ≡ find (λ p. is_box b p) patches.now }
 {
-    patches.iter().find(|p| p.bx == b)
+    match patches.binary_search_by(|p| corner_order(p.bx, b)) {
+        Ok(place) => Some(&patches[place]),
+        Err(_) => None,
+    }
 }
 
-/// The answer to a request, of the patch whose box it names.
+/// The answer to a request, of the patch whose box it names, of patches in corner order.
 fn answer_in(
     alloc: Global,
     d: &Domain,
     q: &Request,
     patches: &[Patch],
 ) -> Result<Option<Parcel>, NoMemory>
-    ensures { IfOk result (λ o. o ≡ answer_in d.now q.now patches.now) }
+    ensures { IfOk result (λ o. AreByCorner patches.now → o ≡ answer_in d.now q.now patches.now) }
 {
     let head = q.edge.head;
     match patch_of(patches, head.bx) {
-        Some(patch) => answer_of(alloc, d, q, patch),
+        Some(patch) => {
+            let parcel = answer_of(alloc, d, q, patch)?;
+            Ok(parcel)
+        }
         None => Ok(None),
     }
 }
 
-/// The answer to a request, of the patch of the field whose box it names.
-#[tactic(auto, unfolding(crate::specs::Sending::answer_from))]
+/// The answer to a request, of the patch of the field whose box it names. The patches of each field stand in
+/// corner order.
 fn answer(
     alloc: Global,
     d: &Domain,
     coarser: &[Listed<Patch>],
     q: &Request,
 ) -> Result<Option<Parcel>, NoMemory>
-    ensures { IfOk result (λ o. o ≡ answer_from d.now coarser.now q.now) }
+    ensures { IfOk result (λ o. AllByCorner coarser.now → o ≡ answer_from d.now coarser.now q.now) }
 {
     match coarser.get(usize::from(q.field)) {
-        Some(patches) => answer_in(alloc, d, q, patches.as_slice()),
+        Some(patches) => {
+            let parcel = answer_in(alloc, d, q, patches.as_slice())?;
+            Ok(parcel)
+        }
         None => Ok(None),
     }
 }
@@ -267,7 +276,7 @@ fn push_answers(
     requests: &[Request],
     out: &mut Vec<Parcel>,
 ) -> Result<(), NoMemory>
-    ensures { OnOk result (out.new.items ≡ out.old.items ++ filter_map (λ q. answer_from d.now coarser.now q) requests.now) }
+    ensures { OnOk result (AllByCorner coarser.now → out.new.items ≡ out.old.items ++ filter_map (λ q. answer_from d.now coarser.now q) requests.now) }
 {
     for q in requests {
         let parcel = answer(alloc, d, coarser, q)?;
@@ -276,7 +285,8 @@ fn push_answers(
     Ok(())
 }
 
-/// All that a rank has for another, which asked for this.
+/// All that a rank has for another, which asked for this. The patches of each field of `coarser` stand in corner
+/// order.
 #[tactic(auto, unfolding(crate::specs::Sending::parcels_from))]
 pub fn parcels_for(
     alloc: Global,
@@ -287,7 +297,7 @@ pub fn parcels_for(
     requests: &[Request],
 ) -> Result<Vec<Parcel>, NoMemory>
     requires { length own.now < 2 ^ 8 }
-    ensures { IfOk result (λ v. v.items ≡ parcels_from plan.now own.now coarser.now to requests.now) }
+    ensures { IfOk result (λ v. AllByCorner coarser.now → v.items ≡ parcels_from plan.now own.now coarser.now to requests.now) }
 {
     let mut out = Vec::new(alloc);
     push_boxes(alloc, &plan.frame, to, own, plan.boxes.as_slice(), &mut out)?;

@@ -1,21 +1,18 @@
-ghost use Rattle.std.specs.Prelude.{◌≡◌, ◌&&◌, ℕ, pos, length, nat_eq, OnOk, IsTrue, true, false};
+ghost use Rattle.std.specs.Prelude.{◌≡◌, ℕ, pos, length, OnOk, IsTrue};
 ghost use Rattle.std.specs.List.{All};
-ghost use Rattle.std.specs.Ordering.{is_eq};
 ghost use Rattle.samr_box.specs.declared.vector.IVec.{IVec as Cell};
 ghost use Rattle.samr_box.specs.Vector.{alike, AtMost};
 ghost use Rattle.samr_box.specs.Corners.{holds_box, cells_of};
 ghost use Rattle.samr_box.specs.Lists.{Member};
-ghost use Rattle.samr_level.specs.RefOrders.{ref_cmp};
 ghost use Rattle.samr_data.specs.Values.{value_in};
 ghost use Rattle.samr_data.specs.Grids.{over, written, copied};
 ghost use Rattle.samr_data.specs.declared.parcel.Parcel.{Parcel as ParcelOf};
-ghost use Rattle.samr_fill.specs.Writing.{target, takes, is_for, any_takes, IsFit, AreOf, Fixes};
+ghost use Rattle.samr_fill.specs.Writing.{target, takes, any_takes, IsFit, AreOf, Fixes};
 
 use crate::coarse::write_coarse;
 use crate::parts::moved_back;
 use samr_box::{Domain, IBox};
 use samr_data::{Parcel, Patch};
-use samr_level::{BoxRef, Edge};
 use samr_ops::{Bounds, Refines, Strategy, Updates};
 use samr_sched::Plan;
 use std::alloc::{AllocError as NoMemory, Global};
@@ -55,66 +52,23 @@ fn write_parcel<R: Refines, B: Bounds, U: Updates>(
     Ok(())
 }
 
-/// Whether a box is at the head of an edge.
-fn leads_to(e: Edge, base: BoxRef) -> bool
-    ensures { result ≡ is_eq (ref_cmp e.head base) }
-{
-    e.head == base
-}
-
-/// Whether a parcel is for a box and a field.
-fn is_for(parcel: &Parcel, base: BoxRef, field: u8) -> bool
-    ensures { result ≡ is_for base field parcel.now }
-{
-    if leads_to(parcel.edge, base) {
-        return parcel.field == field;
-    }
-    false
-}
-
-/// Writes the values of a parcel, if it is for the box and the field.
-fn write_own<R: Refines, B: Bounds, U: Updates>(
-    alloc: Global,
-    patch: &mut Patch,
-    plan: &Plan,
-    base: BoxRef,
-    field: u8,
-    rest: &[IBox],
-    parcel: &Parcel,
-    strategy: &Strategy<R, B, U>,
-) -> Result<(), NoMemory>
-    requires into { All (λ c. IsTrue (holds_box (over patch.old) c)) rest.now }
-    requires small { AtMost plan.now.step (alike (pos 4)) }
-    requires fit { is_for base field parcel.now ≡ true → IsFit plan.now.frame strategy.now (over patch.old) parcel.now }
-    ensures { OnOk result ((v : Cell → ℕ) → (is_for base field parcel.now ≡ true → AreOf v plan.now strategy.now rest.now parcel.now)
-        → Fixes v (λ x. is_for base field parcel.now && takes plan.now rest.now parcel.now x) patch.old patch.new) }
-{
-    if is_for(parcel, base, field) {
-        write_parcel(alloc, patch, plan, rest, parcel, strategy)?;
-        return Ok(());
-    }
-    Ok(())
-}
-
-/// Writes the values of all parcels for a box and a field.
+/// Writes the values of all parcels.
 pub fn write_all<R: Refines, B: Bounds, U: Updates>(
     alloc: Global,
     patch: &mut Patch,
     plan: &Plan,
-    base: BoxRef,
-    field: u8,
     rest: &[IBox],
     parcels: &[Parcel],
     strategy: &Strategy<R, B, U>,
 ) -> Result<(), NoMemory>
     requires into { All (λ c. IsTrue (holds_box (over patch.old) c)) rest.now }
     requires small { AtMost plan.now.step (alike (pos 4)) }
-    requires fit { (p : ParcelOf) → Member p parcels.now → is_for base field p ≡ true → IsFit plan.now.frame strategy.now (over patch.old) p }
-    ensures { OnOk result ((v : Cell → ℕ) → ((p : ParcelOf) → Member p parcels.now → is_for base field p ≡ true → AreOf v plan.now strategy.now rest.now p)
-        → Fixes v (any_takes plan.now rest.now base field parcels.now) patch.old patch.new) }
+    requires fit { (p : ParcelOf) → Member p parcels.now → IsFit plan.now.frame strategy.now (over patch.old) p }
+    ensures { OnOk result ((v : Cell → ℕ) → ((p : ParcelOf) → Member p parcels.now → AreOf v plan.now strategy.now rest.now p)
+        → Fixes v (any_takes plan.now rest.now parcels.now) patch.old patch.new) }
 {
     for parcel in parcels {
-        write_own(alloc, patch, plan, base, field, rest, parcel, strategy)?;
+        write_parcel(alloc, patch, plan, rest, parcel, strategy)?;
     }
     Ok(())
 }

@@ -14,10 +14,13 @@ pub write_all-requires-clause-small : goal.write_all-requires-clause-small
 write_all-requires-clause-small g c =
     small_step c.args.plan.now c.args.parcels.now c.args.field c.args.strategy.now c.args.base c.args.field_plan.now c.args.patch.now c.requires.0 c.requires.1 c.requires.2
 
+pub for_box-own-requires : goal.for_box-own-requires
+for_box-own-requires g c = c.requires.2.has.ordered
+
 pub write_all-requires-clause-fit : goal.write_all-requires-clause-fit
-write_all-requires-clause-fit g c = λ p m t.
+write_all-requires-clause-fit g c = λ p m.
     all_fit c.args.plan.now c.args.parcels.now c.args.field c.args.strategy.now c.args.base c.args.field_plan.now c.args.patch.now c.requires.0 c.requires.1 c.requires.2
-    c.in_ok-copy.copy c.in_ok-copy.ensures p m t
+    c.in_ok-copy.copy c.in_ok-copy.ensures c.for_box-own.result.now c.for_box-own.ensures p m
 
 pub ended-requires : goal.ended-requires
 ended-requires g c = λ x h.
@@ -32,8 +35,9 @@ ended-requires g c = λ x h.
     let fp = c.args.field_plan.now in
     let p = c.args.patch.now in
     let l = c.as_slice-rest.result.now in
-    can plan all n r b fp p w rank task c.in_ok-copy.copy c.write_all.new.patch (any_takes plan l b n all) c.in_ok-copy.ensures
-    (c.in_ok-write_all.ensures (value_of w (n, r)) (λ q m t. all_true plan all n r b fp p w rank task l c.as_slice-rest.ensures q m t)) x h
+    let mine = c.for_box-own.result.now in
+    can plan all n r b fp p w rank task c.in_ok-copy.copy c.write_all.new.patch (any_takes plan l mine) c.in_ok-copy.ensures
+    (c.in_ok-write_all.ensures (value_of w (n, r)) (λ q m. all_true plan all n r b fp p w rank task l c.as_slice-rest.ensures mine c.for_box-own.ensures q m)) x h
 
 pub returns : goal.returns
 returns g c = λ w rank task.
@@ -45,7 +49,8 @@ returns g c = λ w rank task.
     let fp = c.args.field_plan.now in
     let p = c.args.patch.now in
     let l = c.as_slice-rest.result.now in
+    let mine = c.for_box-own.result.now in
     done plan all n r b fp p w rank task c.in_ok-copy.copy c.write_all.new.patch c.in_ok-done.done l c.as_slice-inside.result.now c.as_slice-rest.ensures c.as_slice-inside.ensures
-    c.in_ok-copy.ensures
-    (c.in_ok-write_all.ensures (value_of w (n, r)) (λ q m t. all_true plan all n r b fp p w rank task l c.as_slice-rest.ensures q m t))
+    c.in_ok-copy.ensures mine c.for_box-own.ensures
+    (c.in_ok-write_all.ensures (value_of w (n, r)) (λ q m. all_true plan all n r b fp p w rank task l c.as_slice-rest.ensures mine c.for_box-own.ensures q m))
     c.in_ok-done.ensures

@@ -1,4 +1,4 @@
-use Rattle.std.proofs.Common.{◌≡◌, ◌∙◌, sym, ap, subst, IfOk}
+use Rattle.std.proofs.Common.{◌∙◌, sym, ap}
 use Rattle.std.specs.Prelude.{Option}
 use Rattle.std.specs.List.{find}
 use Rattle.std.specs.Option.{option_copied}
@@ -9,9 +9,13 @@ use Rattle.samr_data.specs.declared.parcel.Parcel.{Parcel}
 use Rattle.samr_fill.specs.Sending.{then_some, is_box, answer_of}
 use Rattle.samr_fill.proofs.sending.answer_in.Goals as goal
 
-pub returns-in-Some : goal.returns-in-Some
-returns-in-Some c =
+pub returns-in_ok-parcel-in-Some : goal.returns-in_ok-parcel-in-Some
+returns-in_ok-parcel-in-Some c = λ sorted.
     let by : Option Grid → Option Parcel = λ o. then_some o (λ p. answer_of c.args.d.now c.args.q.now p) in
-    subst (λ (v : Option Parcel). IfOk c.answer_of.result (λ o. o ≡ v))
-    (ap by (sym (ap (λ (q : Request). find (λ p. is_box q.edge.head.bx p) c.args.patches.now) (sym c.q.view_is) ∙ ap (λ (h : Owned). find (λ p. is_box h.bx p) c.args.patches.now) (sym c.head.view_is) ∙ sym c.patch_of.ensures ∙ ap option_copied c.in-Some.is)))
-    c.answer_of.ensures
+    c.in_ok-parcel-in-Some.ensures
+    ∙ ap by (sym (ap (λ (q : Request). find (λ p. is_box q.edge.head.bx p) c.args.patches.now) (sym c.q.view_is) ∙ ap (λ (h : Owned). find (λ p. is_box h.bx p) c.args.patches.now) (sym c.head.view_is) ∙ sym (c.patch_of.ensures sorted) ∙ ap option_copied c.in-Some.is))
+
+pub returns-in-None : goal.returns-in-None
+returns-in-None c = λ sorted.
+    let by : Option Grid → Option Parcel = λ o. then_some o (λ p. answer_of c.args.d.now c.args.q.now p) in
+    ap by (sym (ap (λ (q : Request). find (λ p. is_box q.edge.head.bx p) c.args.patches.now) (sym c.q.view_is) ∙ ap (λ (h : Owned). find (λ p. is_box h.bx p) c.args.patches.now) (sym c.head.view_is) ∙ sym (c.patch_of.ensures sorted) ∙ ap option_copied c.in-None.is))

@@ -3,6 +3,6 @@ use Rattle.samr_fill.specs.Sending.{answer_from}
 use Rattle.samr_fill.proofs.sending.push_answers.Goals as goal
 
 pub loop-q-preserved : goal.loop-q-preserved
-loop-q-preserved c =
+loop-q-preserved c = λ sorted.
     filter_map_more c.args.requests.now c.loop-q.q-index c.q-item.result c.loop-q-test.true c.q-item.is
-    (λ q. answer_from c.args.d.now c.args.coarser.now q) _ _ _ c.loop-q.invariant c.in_ok-parcel.parcel c.in_ok-parcel.ensures c.in_ok-push_some.ensures
+    (λ q. answer_from c.args.d.now c.args.coarser.now q) _ _ _ (c.loop-q.invariant sorted) c.in_ok-parcel.parcel (c.in_ok-parcel.ensures sorted) c.in_ok-push_some.ensures

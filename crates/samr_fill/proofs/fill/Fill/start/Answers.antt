@@ -5,12 +5,14 @@ use Rattle.samr_sched.specs.declared.plan.Request.{Request}
 use Rattle.samr_sched.specs.declared.plan.BoxPlan.{BoxPlan}
 use Rattle.samr_sched.specs.declared.plan.Asked.{Asked}
 use Rattle.samr_fill.specs.Sending.{parcels_from, asked_of_itself, united, letters_from}
+use Rattle.samr_fill.proofs.BoxSearch.{all_by_corner}
 use Rattle.samr_fill.proofs.Stages.{has_letters}
 use Rattle.samr_fill.proofs.fill.Fill.start.Goals as goal
 
 pub returns : goal.returns
 returns g c = λ w r h.
     let plan = c.args.plan.now in
+    let sorted = all_by_corner w h.is r c.args.coarser.now h.same_coarser in
     let own = c.args.own in
     let coarser = c.args.coarser.now in
     let rank = c.args.rank in
@@ -22,10 +24,10 @@ returns g c = λ w r h.
     let requests = c.as_slice-8.ensures.value ∙ c.in_ok-requests.ensures ∙ ap (λ (l : List BoxPlan). asked_of_itself rank l) c.as_slice-6.ensures in
     has_letters rank c.args.ranks plan own coarser c.args.strategies.now w r h
     c.in_ok-copied.field-0 c.in_ok-copied.ensures c.in_ok-letters.letters.items c.in_ok-parcels.parcels.items c.in_ok-senders.senders.items
-    (c.in_ok-letters.ensures
+    (c.in_ok-letters.ensures sorted
     ∙ ap (λ (o : List (List Grid)). letters_from plan o coarser c.as_slice-5.result.now) c.as_slice-4.ensures
     ∙ ap (λ (l : List ℕ). letters_from plan own coarser l) addressees)
-    (c.in_ok-parcels.ensures
+    (c.in_ok-parcels.ensures sorted
     ∙ ap (λ (o : List (List Grid)). parcels_from plan o coarser rank c.as_slice-8.result.now) c.as_slice-7.ensures
     ∙ ap (λ (l : List Request). parcels_from plan own coarser rank l) requests)
     (c.in_ok-senders.ensures
