@@ -1,0 +1,2 @@
+pub mod Level0Fills
+pub mod Ready

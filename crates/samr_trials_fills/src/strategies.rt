@@ -1,0 +1,149 @@
+ghost use Rattle.std.specs.Prelude.{◌≡◌, ◌*◌, ◌<◌, IfOk, IfSome};
+ghost use Rattle.std.specs.List.{All};
+ghost use Rattle.samr_box.specs.declared.vector.IVec.{IVec as Cell};
+ghost use Rattle.samr_stage.specs.Exchange.{AreResults};
+ghost use Rattle.samr_ops.specs.declared.rules.Rules.{Rules as RulesOf};
+ghost use Rattle.samr_ops.specs.Rules.{IsRules, IsOffset, refined_value, edge_of, updated_value};
+ghost use Rattle.samr_ops.specs.Kept.{KeepsRefine, KeepsBoundary, KeepsUpdate};
+ghost use Rattle.samr_fill.specs.Filling.{Filling};
+ghost use Rattle.samr_fill.specs.FillParts.{filled};
+ghost use Rattle.samr_trials_fills.specs.Level0Fills.{filling0};
+ghost use Rattle.samr_trials_fills.specs.Ready.{AreReady};
+
+use crate::prepared::{Prepared, fill_prepared, prepare};
+use samr_box::{Axis, Domain, IBox, IVec, Listed};
+use samr_data::Patch;
+use samr_ops::{Bounds, Edgewise, Refines, Rules, Strategy, Updates, edge, refined, updated};
+use std::alloc::{AllocError as NoMemory, Global};
+
+/// The strategies of fields, with closures that are made for the rules of each.
+fn strategies<
+    R: Refines + Drop,
+    B: Bounds + Drop,
+    U: Updates + Drop,
+    M: Fn(Rules) -> R,
+    N: Fn(Rules) -> B,
+    O: Fn(Rules) -> U,
+>(
+    alloc: Global,
+    fields: &[Rules],
+    refine: M,
+    boundary: N,
+    update: O,
+) -> Result<Vec<Strategy<R, B, U>>, NoMemory>
+    requires ranges { All IsRules fields.now }
+    requires makes_refine { M.IsAlwaysCallable refine }
+    requires makes_boundary { N.IsAlwaysCallable boundary }
+    requires makes_update { O.IsAlwaysCallable update }
+    requires refine { (r : RulesOf) (f : R) → IsRules r → M.post refine r f → KeepsRefine r (R.can_refine f) (R.refine_gives f) }
+    requires boundary { (r : RulesOf) (f : B) → IsRules r → N.post boundary r f → KeepsBoundary r (B.can_bound f) (B.bound_gives f) }
+    requires update { (r : RulesOf) (f : U) → IsRules r → O.post update r f → KeepsUpdate r (U.can_update f) (U.update_gives f) }
+    ensures { IfOk result (λ v. v.items ≡ fields.now) }
+{
+    let mut list = Vec::new(alloc);
+    for r in fields {
+        list.push(Strategy::new(*r, refine(*r), boundary(*r), update(*r)))?;
+    }
+    Ok(list)
+}
+
+/// The fill with closures that are made for the rules of each field.
+fn fill_made<
+    R: Refines + Drop,
+    B: Bounds + Drop,
+    U: Updates + Drop,
+    M: Fn(Rules) -> R,
+    N: Fn(Rules) -> B,
+    O: Fn(Rules) -> U,
+>(
+    alloc: Global,
+    ready: Prepared,
+    rules: &[Rules],
+    refine: M,
+    boundary: N,
+    update: O,
+) -> Result<Vec<Vec<Listed<Patch>>>, NoMemory>
+    requires ranges { All IsRules rules.now }
+    requires ready { (w : Filling) × AreReady ready rules.now w }
+    requires makes_refine { M.IsAlwaysCallable refine }
+    requires makes_boundary { N.IsAlwaysCallable boundary }
+    requires makes_update { O.IsAlwaysCallable update }
+    requires refine { (r : RulesOf) (f : R) → IsRules r → M.post refine r f → KeepsRefine r (R.can_refine f) (R.refine_gives f) }
+    requires boundary { (r : RulesOf) (f : B) → IsRules r → N.post boundary r f → KeepsBoundary r (B.can_bound f) (B.bound_gives f) }
+    requires update { (r : RulesOf) (f : U) → IsRules r → O.post update r f → KeepsUpdate r (U.can_update f) (U.update_gives f) }
+    ensures { IfOk result (λ outs. (w : Filling) → AreReady ready rules.now w → AreResults (λ w rank out. out.items ≡ filled w rank) w outs.items) }
+{
+    let list = strategies(alloc, rules, refine, boundary, update)?;
+    let outs = fill_prepared(alloc, ready, list.as_slice())?;
+    Ok(outs)
+}
+
+/// The patches of all ranks after a fill by closures that give what the rules of the fields say, by rank, field and box.
+///
+/// # Errors
+///
+/// Where memory is short.
+pub fn fill(
+    alloc: Global,
+    ready: Prepared,
+    rules: &[Rules],
+) -> Result<Vec<Vec<Listed<Patch>>>, NoMemory>
+    requires ranges { All IsRules rules.now }
+    requires ready { (w : Filling) × AreReady ready rules.now w }
+    ensures { IfOk result (λ outs. (w : Filling) → AreReady ready rules.now w → AreResults (λ w rank out. out.items ≡ filled w rank) w outs.items) }
+{
+    let outs = fill_made(
+        alloc,
+        ready,
+        rules,
+        |r: Rules| {
+            move |v: u32, offset: IVec| -> u32
+                requires rules { IsRules r }
+                requires value { v < r.modulus }
+                requires offset { IsOffset offset }
+                ensures { result ≡ refined_value r v offset }
+            { refined(&r, v, offset) }
+        },
+        |r: Rules| {
+            move |axis: Axis, depth: i64| -> Edgewise
+                ensures { result ≡ edge_of r axis depth }
+            { edge(&r, axis, depth) }
+        },
+        |r: Rules| {
+            move |v: u32, sum: u64| -> u32
+                requires rules { IsRules r }
+                requires value { v < r.modulus }
+                requires sum { sum < 6 * r.modulus }
+                ensures { result ≡ updated_value r v sum }
+            { updated(&r, v, sum) }
+        },
+    )?;
+    Ok(outs)
+}
+
+/// The patches of level 0 on all ranks after a fill: `prepare` and `fill` in one. `None` where a number is not fit for it.
+///
+/// # Errors
+///
+/// Where memory is short.
+pub fn fill_by_rules(
+    alloc: Global,
+    frame: Domain,
+    parts: &[IBox],
+    block: IVec,
+    ranks: u16,
+    fixed: &[u32],
+    rules: &[Rules],
+) -> Result<Option<Vec<Vec<Listed<Patch>>>>, NoMemory>
+    requires { All IsRules rules.now }
+    ensures { IfOk result (λ made. IfSome made (λ outs. (width : Cell) × AreResults (λ w rank out. out.items ≡ filled w rank) (filling0 (record { frame = frame; parts = parts.now }) block ranks width fixed.now rules.now) outs.items)) }
+{
+    let made = prepare(alloc, frame, parts, block, ranks, fixed, rules)?;
+    match made {
+        Some(ready) => {
+            let outs = fill(alloc, ready, rules)?;
+            Ok(Some(outs))
+        }
+        None => Ok(None),
+    }
+}
