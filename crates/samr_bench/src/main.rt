@@ -4,6 +4,7 @@
 
 mod bridging;
 mod copying;
+mod filling;
 mod racing;
 mod report;
 mod stopwatch;
@@ -17,6 +18,7 @@ fn main(rt: HostRuntime) -> io::Result<()> {
     let mut words = env::args(&rt)?.skip(1);
     let Some(word) = words.next() else {
         println!(rt; "bridge")?;
+        println!(rt; "fills")?;
         println!(rt; "patches")?;
         println!(rt; "tags")?;
         println!(rt; "threads")?;
@@ -24,6 +26,9 @@ fn main(rt: HostRuntime) -> io::Result<()> {
     };
     if word.as_str() == "bridge" {
         return bridging::print(&rt, alloc);
+    }
+    if word.as_str() == "fills" {
+        return filling::print(&rt, alloc);
     }
     if word.as_str() == "patches" {
         return copying::print(&rt, alloc);
