@@ -17,14 +17,15 @@ use Rattle.samr_data.specs.Grids.{Grid}
 use Rattle.samr_ops.specs.declared.rules.CoarsenRule.{CoarsenRule}
 use Rattle.samr_values.specs.Coarsening.{IsCoarsening, IsRefinement}
 use Rattle.samr_values.specs.AllCoarsenings.{HaveAllFine}
-use Rattle.samr_trials_values.specs.Kept.{kept}
-use Rattle.samr_trials_values.specs.First.{first_fields, all_first}
-use Rattle.samr_trials_values.specs.Renewals.{fine_start, coarse_start, fine_blocks}
+use Rattle.samr_trials_levels.specs.Kept.{kept}
+use Rattle.samr_trials_levels.specs.First.{first_fields, all_first}
+use Rattle.samr_trials_levels.specs.Cover.{fine_start, coarse_start, fine_blocks}
+use Rattle.samr_trials_levels.proofs.Ranks.{at_rank, count_ranks}
+use Rattle.samr_trials_levels.proofs.KeptLaws.{Member-from_kept}
+use Rattle.samr_trials_levels.proofs.FirstPatches.{count_first, first_members, all_own_rooms, all_kept_rooms}
+use Rattle.samr_trials_levels.proofs.Covering.{one_ratio, one_times, is_coarse, is_fine}
 use Rattle.samr_trials_values.specs.Coarsenings.{coarsening_of, coarsening, CanCoarsen, CanCoarsenOver}
-use Rattle.samr_trials_values.proofs.KeptLaws.{Member-from_kept}
-use Rattle.samr_trials_values.proofs.FirstPatches.{has_first, count_first, first_members, all_own_rooms, all_kept_rooms}
-use Rattle.samr_trials_values.proofs.Covering.{one_ratio, one_times, is_coarse, is_fine}
-use Rattle.samr_trials_values.proofs.RenewLaws.{at_rank, count_ranks}
+use Rattle.samr_trials_values.proofs.FirstValues.{has_first}
 
 module _ (frame : Space) (step : IVec) (ranks : ℕ) (width : IVec) (bound : ℕ) (rules : List CoarsenRule) (moduli : List ℕ) (widths : List IVec) (fine coarser : List Owned)
     (h : CanCoarsenOver frame step ranks width bound rules moduli widths fine coarser) where

@@ -1,6 +1,3 @@
-pub mod Steps
-pub mod KeptLaws
-pub mod FirstPatches
-pub mod Covering
+pub mod FirstValues
 pub mod RenewLaws
 pub mod CoarsenLaws

@@ -1,17 +1,13 @@
 -- What the ranks have before the values of a new level are told, and that the levels of blocks are fit for it.
-use Rattle.std.proofs.Common.{◌≡◌, ℕ, ◌<◌, ◌≤◌, refl, sym, ap, ◌∙◌, subst, inl, inr, arith, length, map, Some, slice_get}
-use Rattle.std.proofs.lemmas.Nat.{mod_below}
+use Rattle.std.proofs.Common.{◌≡◌, ℕ, ◌<◌, refl, sym, ap, ◌∙◌, subst, inl, inr, arith, map, slice_get}
 use Rattle.std.proofs.lemmas.List.{length-map}
-use Rattle.std.proofs.lemmas.List.FromFn.{length-map-range_with_len, get_or-map-range_with_len}
-use Rattle.std.proofs.lemmas.Option.{slice_get_within, slice_get-get_or, get_or_from_slice_get}
-use Rattle.std.specs.Prelude.{pos, ◌+◌, ◌*◌, ◌⊎◌, List, [], Option, unsigned_abs}
+use Rattle.std.specs.Prelude.{pos, ◌⊎◌, List, [], Option}
 use Rattle.std.specs.List.{range_with_len}
 use Rattle.samr_box.specs.declared.vector.IVec.{IVec}
 use Rattle.samr_box.specs.Vector.{alike}
 use Rattle.samr_box.specs.Corners.{Corners}
 use Rattle.samr_box.specs.Space.{Space}
-use Rattle.samr_box.specs.Lists.{Member}
-use Rattle.samr_box.proofs.Members.{member_of_All, Member-map}
+use Rattle.samr_box.proofs.Members.{member_of_All}
 use Rattle.samr_level.specs.declared.parts.Pair.{Pair}
 use Rattle.samr_level.specs.Refs.{Owned}
 use Rattle.samr_level.specs.Levels.{own}
@@ -21,34 +17,17 @@ use Rattle.samr_level.specs.Blocks.{level0}
 use Rattle.samr_data.specs.Grids.{Grid}
 use Rattle.samr_ops.specs.declared.rules.Rules.{Rules}
 use Rattle.samr_values.specs.Renewing.{IsRenewing}
-use Rattle.samr_values.proofs.Regions.{item_at}
 use Rattle.samr_values.specs.Renewals.{KnowsOld}
 use Rattle.samr_values.specs.AllValues.{HaveAllOld}
-use Rattle.samr_trials_values.specs.Kept.{kept}
-use Rattle.samr_trials_values.specs.First.{first_value, first_fields, all_first, HasRoom, HasRooms}
-use Rattle.samr_trials_values.specs.Renewals.{fine_start, coarse_start, renewing_of, renewing, fine_blocks, CanRenew, CanRenewOver}
-use Rattle.samr_trials_values.proofs.KeptLaws.{Member-from_kept}
-use Rattle.samr_trials_values.proofs.FirstPatches.{has_first, count_first, all_own_rooms, all_kept_rooms}
-use Rattle.samr_trials_values.proofs.Covering.{one_ratio, one_times, is_coarse, is_fine, lies_over}
-
--- what a list of all ranks has for one of them
-pub at_rank : {X : Type 0} (of : ℕ → X) (ranks : ℕ) (list : List X) (r : ℕ) (x : X) → list ≡ map of (range_with_len 0 ranks) → slice_get list r ≡ Some x → (r < ranks) × (x ≡ of r)
-at_rank {X} of ranks list r x is there =
-    let got : slice_get (map of (range_with_len 0 ranks)) r ≡ Some x = ap (λ (l : List X). slice_get l r) (sym is) ∙ there in
-    let long = length-map-range_with_len of 0 ranks in
-    let within = slice_get_within (map of (range_with_len 0 ranks)) r x got in
-    let below : r < ranks = omega (arith, within, long) in
-    (below, sym (get_or_from_slice_get (map of (range_with_len 0 ranks)) r x x got) ∙ get_or-map-range_with_len of 0 ranks r r x below (omega arith))
-
-of_rank : {X : Type 0} (of : ℕ → X) (ranks : ℕ) (list : List X) (r : ℕ) → list ≡ map of (range_with_len 0 ranks) → r < ranks → slice_get list r ≡ Some (of r)
-of_rank {X} of ranks list r is below =
-    let long = length-map-range_with_len of 0 ranks in
-    ap (λ (l : List X). slice_get l r) is
-    ∙ slice_get-get_or (map of (range_with_len 0 ranks)) r (of r) (omega (arith, below, long))
-    ∙ ap (λ (x : X). Some x) (get_or-map-range_with_len of 0 ranks r r (of r) below (omega arith))
-
-pub count_ranks : {X : Type 0} (of : ℕ → X) (ranks : ℕ) (list : List X) → list ≡ map of (range_with_len 0 ranks) → length list ≡ ranks
-count_ranks of ranks list is = ap length is ∙ length-map-range_with_len of 0 ranks
+use Rattle.samr_trials_levels.specs.Kept.{kept}
+use Rattle.samr_trials_levels.specs.First.{first_fields, all_first, HasRoom}
+use Rattle.samr_trials_levels.specs.Cover.{fine_start, coarse_start, fine_blocks, CanRefine}
+use Rattle.samr_trials_levels.proofs.Ranks.{at_rank, of_rank, count_ranks}
+use Rattle.samr_trials_levels.proofs.KeptLaws.{Member-from_kept}
+use Rattle.samr_trials_levels.proofs.FirstPatches.{count_first, all_own_rooms, all_kept_rooms}
+use Rattle.samr_trials_levels.proofs.Covering.{one_ratio, one_times, is_coarse, is_fine, lies_over, first_fits, its_rooms}
+use Rattle.samr_trials_values.specs.Renewals.{renewing_of, renewing, CanRenewOver}
+use Rattle.samr_trials_values.proofs.FirstValues.{has_first}
 
 module _ (frame : Space) (step : IVec) (ranks : ℕ) (width : IVec) (bound : ℕ) (rules : List Rules) (news olds coarser : List Owned)
     (h : CanRenewOver frame step ranks width bound rules news olds coarser) where
@@ -97,17 +76,8 @@ module _ (frame : Space) (step : IVec) (ranks : ℕ) (width : IVec) (bound : ℕ
             };
       }
 
--- the first values are below the bound
-first_below : (bound start f : ℕ) (x : IVec) → 0 < bound → first_value bound start f x < bound
-unfolding first_value
-first_below bound start f x some = mod_below (start + 7 * f + unsigned_abs x.i + 20 * unsigned_abs x.j + 400 * unsigned_abs x.k) bound some
-
 module _ (area : Area) (block step fine_block : IVec) (news olds ranks : ℕ) (width : IVec) (bound : ℕ) (rules : List Rules)
-    (h : CanRenew area block step fine_block ranks width bound rules) where
-  its_rooms : (r : Rules) → Member r rules → HasRooms (fine_blocks area step fine_block ranks) r.width
-  its_rooms r m =
-      member_of_All (HasRooms (fine_blocks area step fine_block ranks)) r.width (map (λ (r : Rules). r.width) rules) h.hold.over_rooms (Member-map (λ (r : Rules). r.width) r rules m)
-
+    (h : CanRefine area block step fine_block ranks width bound rules) where
   is_renewing : IsRenewing (renewing area block step fine_block news olds ranks width bound rules)
   is_renewing = record {
     area = finer_area area step;
@@ -123,13 +93,11 @@ module _ (area : Area) (block step fine_block : IVec) (news olds ranks : ℕ) (w
     width = h.cover.positive;
     reach = h.cover.positive;
     over = lies_over area block step fine_block ranks width h.cover news;
-    rules = h.ranges;
+    rules = h.fields.ranges;
     room = λ b r m n.
-        member_of_All (HasRoom r.width) b (fine_blocks area step fine_block ranks) (its_rooms r n).rooms (Member-from_kept news (fine_blocks area step fine_block ranks) b m);
-    coarse_fits = λ f r x there cell.
-        let least = member_of_All (λ (r : Rules). bound ≤ r.modulus) r rules h.least (item_at rules f r there) in
-        let small = first_below bound coarse_start f x h.some in
-        omega (arith, least, small);
+        let blocks = fine_blocks area step fine_block ranks in
+        member_of_All (HasRoom r.width) b blocks (its_rooms blocks rules r h.hold.over_rooms n).rooms (Member-from_kept news blocks b m);
+    coarse_fits = λ f r x there cell. first_fits bound coarse_start rules f r x h.fields there;
   }
 
   can_renew_over : CanRenewOver area.frame step ranks width bound rules (kept news (fine_blocks area step fine_block ranks)) (kept olds (fine_blocks area step fine_block ranks)) (level0 area block ranks)
@@ -142,7 +110,7 @@ module _ (area : Area) (block step fine_block : IVec) (news olds ranks : ℕ) (w
         same = h.cover.same;
         below = h.cover.below;
         few = omega (arith, few, number);
-        some = h.some;
+        some = h.fields.some;
         old_rooms = all_kept_rooms (fine_blocks area step fine_block ranks) olds (map (λ (r : Rules). r.width) rules) h.hold.over_rooms;
         coarse_rooms = h.hold.rooms;
       }

@@ -11,9 +11,9 @@ use Rattle.samr_level.specs.Regions.{Area}
 use Rattle.samr_level.specs.Blocks.{level0}
 use Rattle.samr_ops.specs.declared.rules.CoarsenRule.{CoarsenRule}
 use Rattle.samr_values.specs.Coarsening.{Coarsening, IsCoarsening, IsRefinement}
-use Rattle.samr_trials_values.specs.Kept.{kept}
-use Rattle.samr_trials_values.specs.First.{first_value, first_fields, HasRooms}
-use Rattle.samr_trials_values.specs.Renewals.{fine_start, coarse_start, fine_blocks, CanCompare, CanCover, CanHold}
+use Rattle.samr_trials_levels.specs.Kept.{kept}
+use Rattle.samr_trials_levels.specs.First.{first_value, first_fields, HasRooms}
+use Rattle.samr_trials_levels.specs.Cover.{fine_start, coarse_start, fine_blocks, CanCompare, CanCover, CanHold}
 
 -- the coarsening of the first values of a level into those of level 0 below
 abbrev pub coarsening_of : Space → IVec → ℕ → IVec → ℕ → List CoarsenRule → List ℕ → List IVec → List Owned → List Owned → Coarsening

@@ -1,4 +1,2 @@
-pub mod Kept
-pub mod First
 pub mod Renewals
 pub mod Coarsenings

@@ -4,16 +4,14 @@ ghost use Rattle.samr_level.specs.Regions.{finer_area};
 ghost use Rattle.samr_values.specs.Coarsening.{coarsened_patches};
 ghost use Rattle.samr_trials_values.specs.Coarsenings.{coarsening, coarsening_of, CanCoarsen, CanCoarsenOver};
 
-use crate::blocks::kept_boxes;
 use crate::merges::can_coarsen;
-use crate::pairs::{pairs_of, same_ratio};
-use crate::premises::finer_region;
-use crate::renewals::{COARSE_START, FINE_START};
-use crate::starting::all_patches;
 use samr_box::{Domain, IBox, IVec, Listed, Ratio};
 use samr_data::Patch;
 use samr_level::{BoxRef, Region, whole_level0};
 use samr_ops::CoarsenRule;
+use samr_trials_levels::{
+    COARSE_START, FINE_START, all_patches, finer_region, kept_boxes, pairs_of, same_ratio,
+};
 use samr_values::coarsen_all;
 use std::alloc::{AllocError as NoMemory, Global};
 

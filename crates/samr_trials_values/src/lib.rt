@@ -5,13 +5,9 @@
 //! gives nothing. Contracts say that what is given is the new level, or the coarsened one, as a whole.
 #![tactic(auto)]
 
-mod blocks;
 mod coarsenings;
 mod merges;
-mod pairs;
-mod premises;
 mod renewals;
-mod starting;
 mod strategies;
 
 pub use coarsenings::coarsen;

@@ -6,13 +6,13 @@ ghost use Rattle.samr_box.specs.Space.{IsSpace, finer};
 ghost use Rattle.samr_level.specs.Regions.{finer_area};
 ghost use Rattle.samr_values.specs.Parcels.{same_box};
 ghost use Rattle.samr_values.specs.Coarsening.{IsRefinement};
-ghost use Rattle.samr_trials_values.specs.Renewals.{CanCover, CanHold};
+ghost use Rattle.samr_trials_levels.specs.Cover.{CanCover, CanHold};
 ghost use Rattle.samr_trials_values.specs.Coarsenings.{AreMerges, CanCoarsen};
 
-use crate::premises::{can_cover, can_hold, has_few};
 use samr_box::{IBox, IVec, Ratio, coarsen, holds_box, refine};
 use samr_level::{BoxRef, Region, whole_level0};
 use samr_ops::CoarsenRule;
+use samr_trials_levels::{can_cover, can_hold, has_few};
 use std::alloc::{AllocError as NoMemory, Global};
 
 const LEAST: IVec = IVec { k: 0, j: 0, i: 0 };

@@ -2,24 +2,19 @@ ghost use Rattle.std.specs.Prelude.{◌≡◌, IfOk, IfSome, length};
 ghost use Rattle.samr_stage.specs.Exchange.{AreResults};
 ghost use Rattle.samr_level.specs.Regions.{finer_area};
 ghost use Rattle.samr_values.specs.Renewing.{renewed};
-ghost use Rattle.samr_trials_values.specs.Renewals.{renewing, renewing_of, CanRenew, CanRenewOver};
+ghost use Rattle.samr_trials_levels.specs.Cover.{CanRefine};
+ghost use Rattle.samr_trials_values.specs.Renewals.{renewing, renewing_of, CanRenewOver};
 
-use crate::blocks::{boxes_by_rank, kept_boxes};
-use crate::pairs::{old_pairs_of, pairs_of, same_ratio};
-use crate::premises::{can_renew, finer_region, rules_of, widths_of};
-use crate::starting::all_patches;
 use samr_box::{Domain, IBox, IVec, Listed, Ratio};
 use samr_data::Patch;
 use samr_level::{BoxRef, Region, whole_level0};
 use samr_ops::{Bounds, Refines, Rules, Strategy, Updates};
+use samr_trials_levels::{
+    COARSE_START, FINE_START, all_patches, boxes_by_rank, can_refine, finer_region, kept_boxes,
+    pairs_if_any, pairs_of, rules_of, same_ratio, widths_of,
+};
 use samr_values::values_all;
 use std::alloc::{AllocError as NoMemory, Global};
-
-/// What the first values of the old level count from.
-pub(crate) const FINE_START: u32 = 0;
-
-/// What those of level 0 count from.
-pub(crate) const COARSE_START: u32 = 500;
 
 /// The values of a new level, from the first values of an old level and of level 0 below.
 fn renewed_over<R: Refines, B: Bounds, U: Updates>(
@@ -44,7 +39,7 @@ fn renewed_over<R: Refines, B: Bounds, U: Updates>(
     let widths = widths_of(alloc, rules)?;
     let ghosts = widths.as_slice();
     let boxes = boxes_by_rank(alloc, news, ranks)?;
-    let same = old_pairs_of(alloc, ranks, frame, width, step, news, olds)?;
+    let same = pairs_if_any(alloc, ranks, frame, width, step, news, step, olds)?;
     let below = pairs_of(alloc, ranks, frame, width, step, news, one, coarser)?;
     let patches = all_patches(alloc, olds, ghosts, bound, FINE_START, ranks)?;
     let under = all_patches(alloc, coarser, ghosts, bound, COARSE_START, ranks)?;
@@ -79,7 +74,7 @@ fn renewed_blocks<R: Refines, B: Bounds, U: Updates>(
 ) -> Result<Vec<Vec<Listed<Patch>>>, NoMemory>
     requires rules { rules.now ≡ strategies.now }
     requires fine { fine.now ≡ finer_area region.now step }
-    requires can { CanRenew region.now block step fine_block ranks width bound rules.now }
+    requires can { CanRefine region.now block step fine_block ranks width bound rules.now }
     ensures count { IfOk result (λ outs. length outs.items ≡ ranks) }
     ensures values { IfOk result (λ outs. AreResults (λ w rank out. out.items ≡ renewed w rank) (renewing region.now block step fine_block news olds ranks width bound rules.now) outs.items) }
 {
@@ -139,7 +134,7 @@ pub fn renew<R: Refines, B: Bounds, U: Updates>(
     let Some(fine) = finer_region(alloc, &region, step)? else {
         return Ok(None);
     };
-    let can = can_renew(
+    let can = can_refine(
         alloc, &region, &fine, block, step, fine_block, ranks, width, bound, rules,
     )?;
     if !can {

@@ -3,10 +3,10 @@ use Rattle.std.specs.List.{range_with_len}
 use Rattle.samr_box.specs.declared.vector.IVec.{IVec}
 use Rattle.samr_level.specs.Levels.{own}
 use Rattle.samr_level.specs.Pairs.{pair}
-use Rattle.samr_trials_values.specs.First.{first_fields}
-use Rattle.samr_trials_values.specs.Renewals.{coarse_start, CanCompare}
+use Rattle.samr_trials_levels.specs.First.{first_fields}
+use Rattle.samr_trials_levels.specs.Cover.{coarse_start, CanCompare}
+use Rattle.samr_trials_levels.proofs.Ranks.{count_ranks}
 use Rattle.samr_trials_values.specs.Coarsenings.{coarsening_of}
-use Rattle.samr_trials_values.proofs.RenewLaws.{count_ranks}
 use Rattle.samr_trials_values.proofs.CoarsenLaws.{have_fine}
 use Rattle.samr_trials_values.proofs.coarsenings.coarsened_under.Goals as goal
 

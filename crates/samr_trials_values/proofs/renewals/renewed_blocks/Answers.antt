@@ -4,8 +4,9 @@ use Rattle.samr_box.specs.Space.{Space}
 use Rattle.samr_level.specs.Regions.{Area, boxes_of}
 use Rattle.samr_level.specs.Blocks.{IsBlocking, level0}
 use Rattle.samr_values.specs.Renewing.{Renewing, renewed}
-use Rattle.samr_trials_values.specs.Kept.{kept}
-use Rattle.samr_trials_values.specs.Renewals.{fine_blocks, CanRenewOver}
+use Rattle.samr_trials_levels.specs.Kept.{kept}
+use Rattle.samr_trials_levels.specs.Cover.{fine_blocks}
+use Rattle.samr_trials_values.specs.Renewals.{CanRenewOver}
 use Rattle.samr_trials_values.proofs.RenewLaws.{can_from, same_renewing}
 use Rattle.samr_trials_values.proofs.renewals.renewed_blocks.Goals as goal
 

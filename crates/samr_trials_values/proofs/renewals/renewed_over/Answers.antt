@@ -4,9 +4,11 @@ use Rattle.std.specs.List.{All}
 use Rattle.samr_box.specs.declared.vector.IVec.{IVec}
 use Rattle.samr_level.specs.Refs.{Owned}
 use Rattle.samr_level.specs.Levels.{own}
-use Rattle.samr_trials_values.specs.First.{HasRooms}
-use Rattle.samr_trials_values.specs.Renewals.{renewing_of, CanCompare}
-use Rattle.samr_trials_values.proofs.RenewLaws.{have_from, count_ranks}
+use Rattle.samr_trials_levels.specs.First.{HasRooms}
+use Rattle.samr_trials_levels.specs.Cover.{CanCompare}
+use Rattle.samr_trials_levels.proofs.Ranks.{count_ranks}
+use Rattle.samr_trials_values.specs.Renewals.{renewing_of}
+use Rattle.samr_trials_values.proofs.RenewLaws.{have_from}
 use Rattle.samr_trials_values.proofs.renewals.renewed_over.Goals as goal
 
 pub pairs_of-requires-clause-frames : goal.pairs_of-requires-clause-frames

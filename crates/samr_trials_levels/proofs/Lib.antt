@@ -1,0 +1,5 @@
+pub mod Steps
+pub mod Ranks
+pub mod KeptLaws
+pub mod FirstPatches
+pub mod Covering

@@ -1,0 +1,18 @@
+use Rattle.std.proofs.Common.{subst}
+use Rattle.std.proofs.lemmas.List.{take_all}
+use Rattle.std.proofs.lemmas.List.Elements.{All-more}
+use Rattle.std.specs.List.{All}
+use Rattle.samr_level.specs.Refs.{Owned}
+use Rattle.samr_trials_levels.specs.First.{HasRoom}
+use Rattle.samr_trials_levels.proofs.premises.have_room.Goals as goal
+
+pub loop-b-preserved : goal.loop-b-preserved
+loop-b-preserved c =
+    let P : Owned → Type 0 = λ b. HasRoom c.args.width b in
+    All-more P c.args.level.now c.loop-b.b-index c.b-item.result c.loop-b-test.true c.loop-b.invariant
+    (subst P c.b-item.is (subst P c.b.view_is (c.has_room.ensures c.if-not-has_room.false)))
+
+pub returns : goal.returns
+returns c = λ t.
+    let P : Owned → Type 0 = λ b. HasRoom c.args.width b in
+    subst (All P) (take_all c.loop-b.b-index c.args.level.now c.loop-b-test.false) c.loop-b.invariant

@@ -1,7 +1,0 @@
-use Rattle.std.proofs.Common.{◌≡◌, map}
-use Rattle.std.specs.List.{range_with_len}
-use Rattle.samr_level.specs.Levels.{own}
-use Rattle.samr_trials_values.proofs.blocks.boxes_by_rank.Given as goal
-
-abbrev pub invariant-each : goal.invariant-each
-invariant-each l = l.all.items ≡ map (λ rank. map (λ b. b.bx) (own rank l.fn.level)) (range_with_len 0 l.rank)
