@@ -14,13 +14,19 @@ use std::time::Instant;
 /// Blocks of 4 cells a side.
 const BLOCK: IVec = IVec { k: 1, j: 4, i: 4 };
 
+/// How far ghost cells reach, and overlaps are known.
+const WIDTH: IVec = IVec { k: 0, j: 2, i: 2 };
+
+/// All values lie below it.
+const MODULUS: u32 = 1_000_003;
+
 /// One field with two rows of ghost cells about each box, whose values are mirrored in the borders.
 fn rules() -> Rules
     ensures { IsRules result }
 {
     Rules {
-        modulus: 1_000_003,
-        width: IVec { k: 0, j: 2, i: 2 },
+        modulus: MODULUS,
+        width: WIDTH,
         centre: 1,
         face: 1,
         refine: RefineRule::Same,
@@ -88,6 +94,8 @@ fn measure<R: Clock>(rt: &R, alloc: Global, frame: Domain) -> io::Result<Option<
         none.as_slice(),
         BLOCK,
         1,
+        WIDTH,
+        MODULUS,
         nothing.as_slice(),
         fields.as_slice(),
     )?;

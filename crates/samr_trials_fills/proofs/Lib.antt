@@ -1,2 +1,3 @@
 pub mod FillLaws
-pub mod StartLaws
+pub mod FilledFrom
+pub mod CountLaws

@@ -1,2 +1,3 @@
-pub mod Level0Fills
+pub mod Fills
+pub mod Plans
 pub mod Ready

@@ -1,4 +1,4 @@
--- What ranks have before a fill of level 0.
+-- What ranks have before a fill.
 use Rattle.std.specs.Prelude.{◌<◌, ◌^◌, List, length}
 use Rattle.samr_ops.specs.declared.rules.Rules.{Rules}
 use Rattle.samr_fill.specs.Filling.{Filling}

@@ -1,25 +1,21 @@
-ghost use Rattle.std.specs.Prelude.{◌≡◌, ◌<◌, ◌^◌, false, true, IsTrue, IfOk, [], length};
+ghost use Rattle.std.specs.Prelude.{◌≡◌, ◌<◌, false, true, IsTrue, IfOk, [], length, map};
 ghost use Rattle.std.specs.List.{All};
 ghost use Rattle.samr_box.specs.declared.vector.Axis.{Axis as AxisOf};
-ghost use Rattle.samr_box.specs.Vector.{AtMost, InRange};
-ghost use Rattle.samr_box.specs.Corners.{IsBox, cells_of, grown};
-ghost use Rattle.samr_box.specs.Space.{flag};
+ghost use Rattle.samr_box.specs.Vector.{AtMost};
+ghost use Rattle.samr_box.specs.Space.{IsSpace, finer, flag};
+ghost use Rattle.samr_level.specs.Regions.{boxes_of, finer_area};
+ghost use Rattle.samr_level.specs.Blocks.{IsBlocking, level0};
 ghost use Rattle.samr_ops.specs.Rules.{IsRules};
-ghost use Rattle.samr_trials_fills.specs.Level0Fills.{HasRoom, HasRooms, HasFixed, CanFill};
+ghost use Rattle.samr_trials_levels.specs.First.{HasRooms};
+ghost use Rattle.samr_trials_fills.specs.Fills.{IsNarrow, HasFixed, IsFillable, CanFill0, CanFillOver};
 
-use samr_box::{Axis, Domain, Flags, IBox, IVec, grow};
-use samr_level::{BoxRef, Region, whole_level0};
+use samr_box::{Axis, Domain, Flags, IBox, IVec, Ratio};
+use samr_level::{Region, whole_level0};
 use samr_ops::Rules;
+use samr_trials_levels::{
+    are_fields, can_compare, can_refine, have_rooms, is_width, same_ratio, widths_of,
+};
 use std::alloc::{AllocError as NoMemory, Global};
-
-/// The greatest width of ghost cells on each axis.
-pub(crate) fn widest(rules: &[Rules]) -> IVec {
-    let mut most = IVec::alike(0);
-    for r in rules {
-        most = most.greatest(r.width);
-    }
-    most
-}
 
 /// Whether no ghost cells of some rules lie beyond a width.
 fn all_within(rules: &[Rules], width: IVec) -> bool
@@ -33,74 +29,14 @@ fn all_within(rules: &[Rules], width: IVec) -> bool
     true
 }
 
-/// Whether a box has fewer than 2^62 cells.
-fn has_few(b: IBox) -> bool
-    ensures { IsTrue result → cells_of b < 2 ^ 62 }
+/// Whether no ghost cells of some rules lie beyond a width, which is at most the length of a frame.
+fn is_narrow(d: &Domain, width: IVec, rules: &[Rules]) -> bool
+    ensures { IsTrue result → IsNarrow d.now width rules.now }
 {
-    let plane = u128::from(b.length(Axis::I)) * u128::from(b.length(Axis::J));
-    let count = plane * u128::from(b.length(Axis::K));
-    count < 1 << 62
-}
-
-/// Whether a box, grown by a width, is a box.
-fn can_grow(b: IBox, width: IVec) -> bool
-    requires { InRange width }
-    ensures { IsTrue result → IsBox (grown b width) }
-{
-    IBox::new(b.lo.minus(width), b.hi.plus(width)).is_some()
-}
-
-/// Whether a box, grown by a width, has fewer than 2^62 cells.
-fn few_about(b: IBox, width: IVec) -> bool
-    requires { IsBox (grown b width) }
-    ensures { IsTrue result → cells_of (grown b width) < 2 ^ 62 }
-{
-    has_few(grow(b, width))
-}
-
-/// Whether there is room for a box with its ghost cells.
-fn has_room(b: IBox, width: IVec) -> bool
-    requires { InRange width }
-    ensures { IsTrue result → IsBox (grown b width) × (cells_of (grown b width) < 2 ^ 62) }
-{
-    if !can_grow(b, width) {
+    if !width.at_most(d.size) {
         return false;
     }
-    few_about(b, width)
-}
-
-/// Whether there is room for all boxes of a level.
-fn have_room(level: &[BoxRef], width: IVec) -> bool
-    requires { InRange width }
-    ensures { IsTrue result → All (HasRoom width) level.now }
-{
-    for b in level {
-        if !has_room(b.bx, width) {
-            return false;
-        }
-    }
-    true
-}
-
-/// Whether there is room for all boxes of a level with the ghost cells of some rules.
-fn has_rooms(level: &[BoxRef], rules: Rules) -> bool
-    requires { IsRules rules }
-    ensures { IsTrue result → HasRooms level.now rules }
-{
-    have_room(level, rules.width)
-}
-
-/// The same for the rules of all fields.
-fn have_rooms(level: &[BoxRef], rules: &[Rules]) -> bool
-    requires { All IsRules rules.now }
-    ensures { IsTrue result → All (HasRooms level.now) rules.now }
-{
-    for r in rules {
-        if !has_rooms(level, *r) {
-            return false;
-        }
-    }
-    true
+    all_within(rules, width)
 }
 
 /// Whether no axis is periodic.
@@ -139,21 +75,56 @@ fn has_fixed(parts: &[IBox], fixed: &[u32], fields: usize) -> bool
     fixed.len() == fields
 }
 
+/// Whether all ghost cells in a domain with these parts have values.
+fn is_fillable(region: &Region, parts: &[IBox], width: IVec, fixed: &[u32], rules: &[Rules]) -> bool
+    requires { region.now.parts ≡ parts.now }
+    ensures { IsTrue result → IsFillable region.now width fixed.now rules.now }
+{
+    let frame = region.frame();
+    if !is_plain(frame, parts) {
+        return false;
+    }
+    if !is_narrow(frame, width, rules) {
+        return false;
+    }
+    has_fixed(parts, fixed, rules.len())
+}
+
+/// Whether there is room for the patches of all fields on level 0.
+fn has_room0(
+    alloc: Global,
+    region: &Region,
+    block: IVec,
+    ranks: u16,
+    rules: &[Rules],
+) -> Result<bool, NoMemory>
+    requires some { 0 < ranks }
+    requires blocks { IsBlocking block (boxes_of region.now) }
+    ensures { IfOk result (λ t. IsTrue t → All (HasRooms (level0 region.now block ranks)) (map (λ r. r.width) rules.now)) }
+{
+    let widths = widths_of(alloc, rules)?;
+    let level = whole_level0(alloc, region, block, ranks)?;
+    let room = have_rooms(level.as_slice(), widths.as_slice());
+    Ok(room)
+}
+
 /// Whether level 0 of a domain with these parts can be filled.
-pub(crate) fn can_fill(
+pub(crate) fn can_fill0(
     alloc: Global,
     region: &Region,
     parts: &[IBox],
     block: IVec,
     ranks: u16,
     width: IVec,
+    bound: u32,
     fixed: &[u32],
     rules: &[Rules],
 ) -> Result<bool, NoMemory>
     requires parts { region.now.parts ≡ parts.now }
     requires ranges { All IsRules rules.now }
-    ensures { IfOk result (λ t. IsTrue t → CanFill region.now block ranks width fixed.now rules.now) }
+    ensures { IfOk result (λ t. IsTrue t → CanFill0 region.now block ranks width bound fixed.now rules.now) }
 {
+    let one = same_ratio();
     let _boxes = region.boxes(alloc)?;
     if ranks == 0 {
         return Ok(false);
@@ -161,22 +132,51 @@ pub(crate) fn can_fill(
     if !region.can_block(block) {
         return Ok(false);
     }
-    if !region.can_compare(width) {
+    if !is_width(width) {
+        return Ok(false);
+    }
+    if !can_compare(region.frame(), one, one) {
         return Ok(false);
     }
     if rules.len() > 255 {
         return Ok(false);
     }
-    if !is_plain(region.frame(), parts) {
+    if !are_fields(bound, rules) {
         return Ok(false);
     }
-    if !has_fixed(parts, fixed, rules.len()) {
+    if !is_fillable(region, parts, width, fixed, rules) {
         return Ok(false);
     }
-    if !all_within(rules, width) {
-        return Ok(false);
-    }
-    let level = whole_level0(alloc, region, block, ranks)?;
-    let room = have_rooms(level.as_slice(), rules);
+    let room = has_room0(alloc, region, block, ranks, rules)?;
     Ok(room)
+}
+
+/// Whether a level of blocks over it can be filled.
+pub(crate) fn can_fill_over(
+    alloc: Global,
+    region: &Region,
+    fine: &Region,
+    parts: &[IBox],
+    block: IVec,
+    step: Ratio,
+    fine_block: IVec,
+    ranks: u16,
+    width: IVec,
+    bound: u32,
+    fixed: &[u32],
+    rules: &[Rules],
+) -> Result<bool, NoMemory>
+    requires finer { IsSpace (finer region.now.frame step) }
+    requires fine { fine.now ≡ finer_area region.now step }
+    requires parts { region.now.parts ≡ parts.now }
+    requires ranges { All IsRules rules.now }
+    ensures { IfOk result (λ t. IsTrue t → CanFillOver region.now block step fine_block ranks width bound fixed.now rules.now) }
+{
+    if !is_fillable(region, parts, width, fixed, rules) {
+        return Ok(false);
+    }
+    let can = can_refine(
+        alloc, region, fine, block, step, fine_block, ranks, width, bound, rules,
+    )?;
+    Ok(can)
 }

@@ -1,50 +1,35 @@
-ghost use Rattle.std.specs.Prelude.{◌≡◌, ◌*◌, ◌<◌, IfOk, IfSome};
+ghost use Rattle.std.specs.Prelude.{◌≡◌, ◌*◌, ◌<◌, IfOk};
 ghost use Rattle.std.specs.List.{All};
-ghost use Rattle.samr_box.specs.declared.vector.IVec.{IVec as Cell};
 ghost use Rattle.samr_stage.specs.Exchange.{AreResults};
 ghost use Rattle.samr_ops.specs.declared.rules.Rules.{Rules as RulesOf};
 ghost use Rattle.samr_ops.specs.Rules.{IsRules, IsOffset, refined_value, edge_of, updated_value};
 ghost use Rattle.samr_ops.specs.Kept.{KeepsRefine, KeepsBoundary, KeepsUpdate};
 ghost use Rattle.samr_fill.specs.Filling.{Filling};
 ghost use Rattle.samr_fill.specs.FillParts.{filled};
-ghost use Rattle.samr_trials_fills.specs.Level0Fills.{filling0};
 ghost use Rattle.samr_trials_fills.specs.Ready.{AreReady};
 
-use crate::prepared::{Prepared, fill_prepared, prepare};
-use samr_box::{Axis, Domain, IBox, IVec, Listed};
+use crate::prepared::Prepared;
+use samr_box::{Axis, IVec, Listed};
 use samr_data::Patch;
+use samr_fill::fill_all;
 use samr_ops::{Bounds, Edgewise, Refines, Rules, Strategy, Updates, edge, refined, updated};
+use samr_trials_levels::strategies;
 use std::alloc::{AllocError as NoMemory, Global};
 
-/// The strategies of fields, with closures that are made for the rules of each.
-fn strategies<
-    R: Refines + Drop,
-    B: Bounds + Drop,
-    U: Updates + Drop,
-    M: Fn(Rules) -> R,
-    N: Fn(Rules) -> B,
-    O: Fn(Rules) -> U,
->(
+/// The patches of all ranks after the fill.
+fn fill_prepared<R: Refines, B: Bounds, U: Updates>(
     alloc: Global,
-    fields: &[Rules],
-    refine: M,
-    boundary: N,
-    update: O,
-) -> Result<Vec<Strategy<R, B, U>>, NoMemory>
-    requires ranges { All IsRules fields.now }
-    requires makes_refine { M.IsAlwaysCallable refine }
-    requires makes_boundary { N.IsAlwaysCallable boundary }
-    requires makes_update { O.IsAlwaysCallable update }
-    requires refine { (r : RulesOf) (f : R) → IsRules r → M.post refine r f → KeepsRefine r (R.can_refine f) (R.refine_gives f) }
-    requires boundary { (r : RulesOf) (f : B) → IsRules r → N.post boundary r f → KeepsBoundary r (B.can_bound f) (B.bound_gives f) }
-    requires update { (r : RulesOf) (f : U) → IsRules r → O.post update r f → KeepsUpdate r (U.can_update f) (U.update_gives f) }
-    ensures { IfOk result (λ v. v.items ≡ fields.now) }
+    ready: Prepared,
+    strategies: &[Strategy<R, B, U>],
+) -> Result<Vec<Vec<Listed<Patch>>>, NoMemory>
+    requires { (w : Filling) × AreReady ready strategies.now w }
+    ensures { IfOk result (λ outs. (w : Filling) → AreReady ready strategies.now w → AreResults (λ w rank out. out.items ≡ filled w rank) w outs.items) }
 {
-    let mut list = Vec::new(alloc);
-    for r in fields {
-        list.push(Strategy::new(*r, refine(*r), boundary(*r), update(*r)))?;
-    }
-    Ok(list)
+    let plans = ready.plans;
+    let own = ready.own;
+    let below = ready.below;
+    let outs = fill_all(alloc, plans.as_slice(), own, below.as_slice(), strategies)?;
+    Ok(outs)
 }
 
 /// The fill with closures that are made for the rules of each field.
@@ -119,31 +104,4 @@ pub fn fill(
         },
     )?;
     Ok(outs)
-}
-
-/// The patches of level 0 on all ranks after a fill: `prepare` and `fill` in one. `None` where a number is not fit for it.
-///
-/// # Errors
-///
-/// Where memory is short.
-pub fn fill_by_rules(
-    alloc: Global,
-    frame: Domain,
-    parts: &[IBox],
-    block: IVec,
-    ranks: u16,
-    fixed: &[u32],
-    rules: &[Rules],
-) -> Result<Option<Vec<Vec<Listed<Patch>>>>, NoMemory>
-    requires { All IsRules rules.now }
-    ensures { IfOk result (λ made. IfSome made (λ outs. (width : Cell) × AreResults (λ w rank out. out.items ≡ filled w rank) (filling0 (record { frame = frame; parts = parts.now }) block ranks width fixed.now rules.now) outs.items)) }
-{
-    let made = prepare(alloc, frame, parts, block, ranks, fixed, rules)?;
-    match made {
-        Some(ready) => {
-            let outs = fill(alloc, ready, rules)?;
-            Ok(Some(outs))
-        }
-        None => Ok(None),
-    }
 }

@@ -1,17 +1,35 @@
 ghost use Rattle.std.specs.List.{All};
-ghost use Rattle.std.specs.Prelude.{IfOk};
+ghost use Rattle.std.specs.Prelude.{IfOk, IfSome};
 ghost use Rattle.samr_ops.specs.Rules.{IsRules};
+ghost use Rattle.samr_fill.specs.Filling.{Filling};
+ghost use Rattle.samr_trials_fills.specs.Ready.{AreReady};
 
-use crate::fill_by_rules;
-use crate::starting::first_value;
-use samr_box::{Domain, Flags, IBox, IVec, Listed, contains};
-use samr_data::Patch;
+use crate::plain::{BOUND, Plain, right_fill};
+use crate::{Prepared, fill, prepare, prepare_over, rows};
+use samr_box::{Domain, Flags, IBox, IVec, Ratio};
 use samr_ops::{Border, RefineRule, Rule, Rules};
+use samr_sched::Row;
 use std::alloc::{AllocError as NoMemory, Global};
 use std::process::Abort;
 use std::test::Fail;
 
 const BLOCK: IVec = IVec { k: 1, j: 4, i: 4 };
+
+/// Blocks of a level over level 0.
+const FINE_BLOCK: IVec = IVec { k: 1, j: 4, i: 8 };
+
+const BY_TWO: Ratio = Ratio { k: 1, j: 2, i: 2 };
+
+const WIDTH: IVec = IVec { k: 0, j: 2, i: 2 };
+
+/// What a run has: cells in all, and ghost cells by their origins.
+#[derive(Clone, Copy)]
+struct Counts {
+    cells: u64,
+    copies: u64,
+    coarse: u64,
+    outside: u64,
+}
 
 /// The rules of a field with a fixed value beyond the borders of `i`.
 fn fixed_rules() -> Rules
@@ -40,7 +58,7 @@ fn mirrored_rules() -> Rules
         width: IVec { k: 0, j: 2, i: 2 },
         centre: 1,
         face: 1,
-        refine: RefineRule::Same,
+        refine: RefineRule::Ramp,
         boundary: Border {
             i: Rule::Reflect,
             j: Rule::Clamp,
@@ -59,131 +77,166 @@ fn both_rules(alloc: Global) -> Result<Vec<Rules>, NoMemory>
     Ok(list)
 }
 
-/// The patches of both fields on so many ranks.
-fn filled(
+/// A row more.
+fn with_row(sum: Counts, row: Row) -> Counts {
+    let mut more = sum;
+    match row {
+        Row::Copy { cells, .. } => more.copies = sum.copies.saturating_add(cells),
+        Row::Coarse { cells, .. } => more.coarse = sum.coarse.saturating_add(cells),
+        Row::Outside { cells, .. } => more.outside = sum.outside.saturating_add(cells),
+    }
+    more
+}
+
+/// The rows of a rank more.
+fn with_rows(sum: Counts, list: &[Row]) -> Counts {
+    let mut more = sum;
+    for row in list {
+        more = with_row(more, *row);
+    }
+    more
+}
+
+/// The ghost cells in the rows of all ranks.
+fn counted(all: &[Vec<Row>]) -> Counts {
+    let mut sum = Counts {
+        cells: 0,
+        copies: 0,
+        coarse: 0,
+        outside: 0,
+    };
+    for list in all {
+        sum = with_rows(sum, list.as_slice());
+    }
+    sum
+}
+
+/// Whether as many ghost cells have each origin.
+fn same_origins(a: Counts, b: Counts) -> bool {
+    a.copies == b.copies && a.coarse == b.coarse && a.outside == b.outside
+}
+
+/// How many cells the patches have after the fill, where each has what the plain look finds.
+fn filled_cells(
+    alloc: Global,
+    look: &Plain,
+    ready: Prepared,
+    ranks: u16,
+    rules: &[Rules],
+) -> Result<Option<u64>, NoMemory>
+    requires ranges { All IsRules rules.now }
+    requires ready { (w : Filling) × AreReady ready rules.now w }
+{
+    let outs = fill(alloc, ready, rules)?;
+    if outs.len() != usize::from(ranks) {
+        return Ok(None);
+    }
+    Ok(right_fill(look, outs.as_slice()))
+}
+
+/// Whether a run has these numbers of cells, and each cell what the plain look finds.
+fn is_right(
+    alloc: Global,
+    look: &Plain,
+    ready: Prepared,
+    ranks: u16,
+    rules: &[Rules],
+    counts: Counts,
+) -> Result<bool, NoMemory>
+    requires ranges { All IsRules rules.now }
+    requires ready { (w : Filling) × AreReady ready rules.now w }
+{
+    let all = rows(alloc, &ready)?;
+    if !same_origins(counted(all.as_slice()), counts) {
+        return Ok(false);
+    }
+    let cells = filled_cells(alloc, look, ready, ranks, rules)?;
+    Ok(cells == Some(counts.cells))
+}
+
+/// The same of a fill of level 0 of a domain, whose boxes the plain look has.
+fn is_right0(
+    alloc: Global,
+    look: &Plain,
+    ranks: u16,
+    fixed: &[u32],
+    counts: Counts,
+) -> Result<bool, NoMemory> {
+    let list = both_rules(alloc)?;
+    let rules = list.as_slice();
+    let made = prepare(
+        alloc, look.frame, look.parts, BLOCK, ranks, WIDTH, BOUND, fixed, rules,
+    )?;
+    let Some(ready) = made else {
+        return Ok(false);
+    };
+    is_right(alloc, look, ready, ranks, rules, counts)
+}
+
+/// What is ready for a fill of some blocks over level 0 of a domain.
+fn made_over(
     alloc: Global,
     frame: Domain,
     parts: &[IBox],
+    over: u64,
     ranks: u16,
     fixed: &[u32],
-) -> Result<Option<Vec<Vec<Listed<Patch>>>>, NoMemory> {
-    let rules = both_rules(alloc)?;
-    let made = fill_by_rules(alloc, frame, parts, BLOCK, ranks, fixed, rules.as_slice())?;
+    rules: &[Rules],
+) -> Result<Option<Prepared>, NoMemory>
+    requires { All IsRules rules.now }
+    ensures { IfOk result (λ made. IfSome made (λ p. (w : Filling) × AreReady p rules.now w)) }
+{
+    let made = prepare_over(
+        alloc, frame, parts, BLOCK, BY_TWO, FINE_BLOCK, over, ranks, WIDTH, BOUND, fixed, rules,
+    )?;
     Ok(made)
 }
 
-/// Where a cell on a line of so many cells lies when the border is a mirror.
-fn mirrored(x: i64, length: i64) -> i64 {
-    if x < 0 {
-        return (-1i64).saturating_sub(x);
-    }
-    if x < length {
-        return x;
-    }
-    length.saturating_mul(2).saturating_sub(1).saturating_sub(x)
+/// Whether a fill of such blocks has these numbers of cells, and each cell what the plain look finds.
+fn is_right_over(
+    alloc: Global,
+    look: &Plain,
+    frame: Domain,
+    parts: &[IBox],
+    over: u64,
+    ranks: u16,
+    fixed: &[u32],
+    counts: Counts,
+) -> Result<bool, NoMemory> {
+    let list = both_rules(alloc)?;
+    let rules = list.as_slice();
+    let made = made_over(alloc, frame, parts, over, ranks, fixed, rules)?;
+    let Some(ready) = made else {
+        return Ok(false);
+    };
+    is_right(alloc, look, ready, ranks, rules, counts)
 }
 
-/// Where a cell on a line of so many cells lies when the line is a ring.
-fn turned(x: i64, length: i64) -> i64 {
-    if x < 0 {
-        return x.saturating_add(length);
-    }
-    if x < length {
-        return x;
-    }
-    x.saturating_sub(length)
-}
-
-/// The first value of a cell of a field.
-fn value_inside(field: u64, x: IVec) -> u32 {
-    if field == 0 {
-        return first_value(1_000, 0, x);
-    }
-    first_value(997, field, x)
-}
-
-/// The value of a cell by a plain walk in a whole frame: along `i` to a value or a cell inside, then round `j`.
-fn walked_value(d: &Domain, field: u64, x: IVec) -> u32 {
-    if field == 0 && (x.i < 0 || x.i >= d.size.i) {
-        return 9;
-    }
-    let i = mirrored(x.i, d.size.i);
-    let j = turned(x.j, d.size.j);
-    value_inside(field, IVec::new(i, j, x.k))
-}
-
-/// The value of a cell in a domain of parts: its own in a part, else the fixed one of the field.
-fn value_by_parts(parts: &[IBox], field: u64, x: IVec) -> u32 {
-    for p in parts {
-        if contains(*p, x) {
-            return value_inside(field, x);
-        }
-    }
-    if field == 0 { 9 } else { 5 }
-}
-
-/// The value of a cell by a plain look.
-fn plain_value(d: &Domain, parts: &[IBox], field: u64, x: IVec) -> u32 {
-    if parts.is_empty() {
-        return walked_value(d, field, x);
-    }
-    value_by_parts(parts, field, x)
-}
-
-/// The value that a patch has of a cell.
-fn value_in(patch: &Patch, x: IVec) -> Option<u32> {
-    if contains(patch.over(), x) {
-        return Some(patch.get(x));
-    }
-    None
-}
-
-/// How many cells of a row a patch has, where each is what the plain look finds.
-fn right_row(d: &Domain, parts: &[IBox], field: u64, patch: &Patch, j: i64) -> Option<u64> {
-    let mut cells = 0u64;
-    for i in patch.over().lo.i..patch.over().hi.i.saturating_add(1) {
-        let x = IVec::new(i, j, 0);
-        if value_in(patch, x) != Some(plain_value(d, parts, field, x)) {
-            return None;
-        }
-        cells = cells.saturating_add(1);
-    }
-    Some(cells)
-}
-
-/// How many cells a patch has, where each is what the plain look finds.
-fn right_cells(d: &Domain, parts: &[IBox], field: u64, patch: &Patch) -> Option<u64> {
-    let mut cells = 0u64;
-    for j in patch.over().lo.j..patch.over().hi.j.saturating_add(1) {
-        cells = cells.saturating_add(right_row(d, parts, field, patch, j)?);
-    }
-    Some(cells)
-}
-
-/// How many cells the patches of a field have in all.
-fn right_field(d: &Domain, parts: &[IBox], field: u64, patches: &[Patch]) -> Option<u64> {
-    let mut cells = 0u64;
-    for patch in patches {
-        cells = cells.saturating_add(right_cells(d, parts, field, patch)?);
-    }
-    Some(cells)
-}
-
-/// How many cells the patches of all ranks have in all.
-fn right_fill(d: &Domain, parts: &[IBox], outs: &[Vec<Listed<Patch>>]) -> Option<u64> {
-    let mut cells = 0u64;
-    for out in outs {
-        if out.len() != 2 {
-            return None;
-        }
-        for field in 0..2u8 {
-            if let Some(patches) = out.get(usize::from(field)) {
-                let more = right_field(d, parts, u64::from(field), patches.as_slice())?;
-                cells = cells.saturating_add(more);
-            }
-        }
-    }
-    Some(cells)
+/// How many cells a fill of such blocks has, where each has what the plain look finds.
+fn cells_over(
+    alloc: Global,
+    look: &Plain,
+    frame: Domain,
+    over: u64,
+    ranks: u16,
+) -> Result<Option<u64>, NoMemory> {
+    let list = both_rules(alloc)?;
+    let rules = list.as_slice();
+    let none = Vec::new(alloc);
+    let nothing = Vec::new(alloc);
+    let made = made_over(
+        alloc,
+        frame,
+        none.as_slice(),
+        over,
+        ranks,
+        nothing.as_slice(),
+        rules,
+    )?;
+    let Some(ready) = made else {
+        return Ok(None);
+    };
+    filled_cells(alloc, look, ready, ranks, rules)
 }
 
 /// A frame of these lengths that is periodic along `j`, or on no axis.
@@ -201,33 +254,25 @@ fn plane(rt: &impl Abort, i: i64, j: i64, last_i: i64, last_j: i64) -> IBox {
     IBox::new(IVec::new(i, j, 0), IVec::new(last_i, last_j, 0)).expect(rt, "a box")
 }
 
-/// Whether a fill gives this many cells, each of which has what the plain look finds.
-fn fill_is_right(
-    alloc: Global,
-    d: &Domain,
-    parts: &[IBox],
-    ranks: u16,
-    fixed: &[u32],
-    cells: u64,
-) -> Result<bool, NoMemory> {
-    let Some(outs) = filled(alloc, *d, parts, ranks, fixed)? else {
-        return Ok(false);
-    };
-    if outs.len() != usize::from(ranks) {
-        return Ok(false);
-    }
-    Ok(right_fill(d, parts, outs.as_slice()) == Some(cells))
-}
-
 #[test]
 fn fills_a_frame_on_one_to_five_ranks(rt: HostRuntime) -> Result<(), Fail> {
     let alloc = rt.alloc();
-    let d = frame(&rt, 12, 8, true);
+    let boxes = [plane(&rt, 0, 0, 11, 7)];
     let parts: Vec<IBox> = Vec::new(alloc);
     let fixed: Vec<u32> = Vec::new(alloc);
+    let look = Plain {
+        frame: frame(&rt, 12, 8, true),
+        boxes: boxes.as_slice(),
+        parts: parts.as_slice(),
+    };
+    let counts = Counts {
+        cells: 600,
+        copies: 320,
+        coarse: 0,
+        outside: 88,
+    };
     for ranks in 1..6u16 {
-        let right = fill_is_right(alloc, &d, parts.as_slice(), ranks, fixed.as_slice(), 600)?;
-        assert!(rt; right);
+        assert!(rt; is_right0(alloc, &look, ranks, fixed.as_slice(), counts)?);
     }
     Ok(())
 }
@@ -235,12 +280,138 @@ fn fills_a_frame_on_one_to_five_ranks(rt: HostRuntime) -> Result<(), Fail> {
 #[test]
 fn fills_two_parts_on_one_to_three_ranks(rt: HostRuntime) -> Result<(), Fail> {
     let alloc = rt.alloc();
-    let d = frame(&rt, 8, 8, false);
     let parts = [plane(&rt, 0, 0, 3, 7), plane(&rt, 4, 0, 7, 3)];
     let fixed = [9u32, 5];
+    let look = Plain {
+        frame: frame(&rt, 8, 8, false),
+        boxes: parts.as_slice(),
+        parts: parts.as_slice(),
+    };
+    let counts = Counts {
+        cells: 300,
+        copies: 58,
+        coarse: 0,
+        outside: 146,
+    };
     for ranks in 1..4u16 {
-        let right = fill_is_right(alloc, &d, parts.as_slice(), ranks, fixed.as_slice(), 300)?;
+        assert!(rt; is_right0(alloc, &look, ranks, fixed.as_slice(), counts)?);
+    }
+    Ok(())
+}
+
+#[test]
+fn fills_four_blocks_over_a_frame_on_one_to_five_ranks(rt: HostRuntime) -> Result<(), Fail> {
+    let alloc = rt.alloc();
+    let boxes = [
+        plane(&rt, 0, 0, 15, 3),
+        plane(&rt, 8, 4, 15, 7),
+        plane(&rt, 0, 8, 7, 11),
+    ];
+    let parts: Vec<IBox> = Vec::new(alloc);
+    let fixed: Vec<u32> = Vec::new(alloc);
+    let look = Plain {
+        frame: frame(&rt, 16, 12, true),
+        boxes: boxes.as_slice(),
+        parts: parts.as_slice(),
+    };
+    let d = frame(&rt, 8, 6, true);
+    let counts = Counts {
+        cells: 624,
+        copies: 150,
+        coarse: 130,
+        outside: 88,
+    };
+    for ranks in 1..6u16 {
+        let right = is_right_over(
+            alloc,
+            &look,
+            d,
+            parts.as_slice(),
+            0b01_1011,
+            ranks,
+            fixed.as_slice(),
+            counts,
+        )?;
         assert!(rt; right);
+    }
+    Ok(())
+}
+
+#[test]
+fn fills_three_blocks_over_two_parts_on_one_to_four_ranks(rt: HostRuntime) -> Result<(), Fail> {
+    let alloc = rt.alloc();
+    let coarse_parts = [plane(&rt, 0, 0, 7, 3), plane(&rt, 0, 4, 3, 7)];
+    let parts = [plane(&rt, 0, 0, 15, 7), plane(&rt, 0, 8, 7, 15)];
+    let boxes = [
+        plane(&rt, 8, 0, 15, 3),
+        plane(&rt, 0, 4, 7, 7),
+        plane(&rt, 0, 8, 7, 11),
+    ];
+    let fixed = [9u32, 5];
+    let look = Plain {
+        frame: frame(&rt, 16, 16, false),
+        boxes: boxes.as_slice(),
+        parts: parts.as_slice(),
+    };
+    let d = frame(&rt, 8, 8, false);
+    let counts = Counts {
+        cells: 468,
+        copies: 58,
+        coarse: 101,
+        outside: 117,
+    };
+    for ranks in 1..5u16 {
+        let right = is_right_over(
+            alloc,
+            &look,
+            d,
+            coarse_parts.as_slice(),
+            0b01_0110,
+            ranks,
+            fixed.as_slice(),
+            counts,
+        )?;
+        assert!(rt; right);
+    }
+    Ok(())
+}
+
+/// Those of the six blocks of a frame of 16 x 12 cells whose digits are 1, and how many they are.
+fn blocks_of(rt: &impl Abort, alloc: Global, digits: u64) -> Result<Vec<IBox>, NoMemory> {
+    let mut boxes = Vec::new(alloc);
+    let mut rest = digits;
+    for n in 0..6i64 {
+        if rest % 2 == 1 {
+            let i = n.rem_euclid(2).saturating_mul(8);
+            let j = n.div_euclid(2).saturating_mul(4);
+            boxes.push(plane(rt, i, j, i.saturating_add(7), j.saturating_add(3)))?;
+        }
+        rest /= 2;
+    }
+    Ok(boxes)
+}
+
+/// Each block of 8 x 4 cells has 60 with ghost cells one wide, and 96 with such two wide.
+fn cells_of_blocks(boxes: &[IBox]) -> u64 {
+    (boxes.len() as u64).saturating_mul(156)
+}
+
+#[test]
+fn fills_any_blocks_over_a_frame_on_one_to_five_ranks(rt: HostRuntime) -> Result<(), Fail> {
+    let alloc = rt.alloc();
+    let parts: Vec<IBox> = Vec::new(alloc);
+    let d = frame(&rt, 8, 6, true);
+    let fine = frame(&rt, 16, 12, true);
+    for digits in 0..64u8 {
+        let boxes = blocks_of(&rt, alloc, u64::from(digits))?;
+        let look = Plain {
+            frame: fine,
+            boxes: boxes.as_slice(),
+            parts: parts.as_slice(),
+        };
+        let ranks = u16::from(digits % 5).saturating_add(1);
+        let cells = cells_over(alloc, &look, d, u64::from(digits), ranks)?;
+        assert!(rt; cells == Some(cells_of_blocks(boxes.as_slice())));
     }
     Ok(())
 }

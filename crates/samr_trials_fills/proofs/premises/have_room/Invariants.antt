@@ -1,7 +1,0 @@
-use Rattle.std.proofs.Common.{take}
-use Rattle.std.specs.List.{All}
-use Rattle.samr_trials_fills.specs.Level0Fills.{HasRoom}
-use Rattle.samr_trials_fills.proofs.premises.have_room.Given as goal
-
-abbrev pub invariant-loop-b : goal.invariant-loop-b
-invariant-loop-b l = All (HasRoom l.fn.width) (take l.b-index l.level)
