@@ -1,4 +1,4 @@
-use Rattle.std.proofs.Common.{sym, subst}
+use Rattle.std.proofs.Common.{◌∙◌, ap, length, sym, subst}
 use Rattle.std.specs.Prelude.{List}
 use Rattle.samr_sched.specs.declared.plan.Plan.{Plan}
 use Rattle.samr_trials_fills.specs.Plans.{ArePlans}
@@ -13,5 +13,7 @@ rows_of_plans-requires c =
 
 pub returns : goal.returns
 returns c = λ w rules ready.
-    let p = c.args.ready.now in
-    c.in_ok-all.ensures w.schedule (subst (λ (l : List Plan). ArePlans w.schedule l) (sym c.as_slice.ensures.value) (are_plans p.plans.items p.own.items p.below.items rules w ready.all))
+    let p = c.args.ready.now in (
+      c.in_ok-all.ensures.count ∙ ap length c.as_slice.ensures.value ∙ ready.all.all_plans,
+      c.in_ok-all.ensures.rows w.schedule (subst (λ (l : List Plan). ArePlans w.schedule l) (sym c.as_slice.ensures.value) (are_plans p.plans.items p.own.items p.below.items rules w ready.all)),
+    )

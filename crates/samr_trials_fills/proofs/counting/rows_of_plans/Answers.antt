@@ -19,5 +19,8 @@ loop-plan-preserved c = (
       (c.loop-plan.invariant.1 w are) (c.in_ok-list.ensures w c.loop-plan.plan-index p.is p.same) c.in_ok-push.ensures.items,
 )
 
-pub returns : goal.returns
-returns c = c.loop-plan.invariant.1
+pub returns-clause-count : goal.returns-clause-count
+returns-clause-count c = omega (arith, c.loop-plan.invariant.0, c.loop-plan-test.false, c.loop-plan.auto.plan-index-end)
+
+pub returns-clause-rows : goal.returns-clause-rows
+returns-clause-rows c = c.loop-plan.invariant.1
