@@ -21,3 +21,4 @@ pub mod Regions
 pub mod Renewed
 pub mod ValueLaws
 pub mod RowProofs
+pub mod Faces

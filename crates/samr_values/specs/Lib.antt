@@ -12,3 +12,4 @@ pub mod AllCoarsenings
 pub mod AllValues
 pub mod Laws
 pub mod Rows
+pub mod Updating

@@ -1,8 +1,8 @@
-//! Values that pass between levels: those of a new level, and those of a level under a finer one.
+//! Values of patches: those of a new level, those of a level under a finer one, and those after an update.
 //!
 //! A new level takes the values of the old level of its number where that has the cell, and else those of the level
-//! below by the refine operator. After a step each cell under a finer level gets what the coarsening rule makes of the
-//! cells over it.
+//! below by the refine operator. In a step each cell gets a new value from its own and those at its faces, and then each
+//! cell under a finer level gets what the coarsening rule makes of the cells over it.
 #![tactic(auto)]
 
 mod all_coarsenings;
@@ -15,12 +15,14 @@ mod packing;
 mod pouring;
 mod renewing;
 mod sending;
+mod update;
 mod values;
 
 pub use all_coarsenings::coarsen_all;
 pub use all_values::values_all;
 pub use coarsen::Coarsen;
 pub use laws::{merged_values_fit, new_values_fit, others_keep_theirs, values_of_rows};
+pub use update::updated_patches;
 pub use values::Values;
 
 #[cfg(test)]
