@@ -1,0 +1,13 @@
+pub mod Domains
+pub mod Refined
+pub mod Roots
+pub mod Cutting
+pub mod Passes
+pub mod Meshes
+pub mod Grounds
+pub mod Soundness
+pub mod Stages
+pub mod PassLists
+pub mod Independence
+pub mod Sources
+pub mod Rows
