@@ -1,0 +1,4 @@
+pub mod PassStages
+pub mod Moves
+pub mod Bridging
+pub mod PassedOn

@@ -1,0 +1,4 @@
+pub mod Wholes
+pub mod Bridges
+pub mod Laws
+pub mod Passing
