@@ -1,0 +1,12 @@
+pub mod Scaling
+pub mod Schedules
+pub mod Fills
+pub mod Fitting
+pub mod Agreeing
+pub mod Grounding
+pub mod Patching
+pub mod Beginning
+pub mod Updating
+pub mod Filled
+pub mod Sourcing
+pub mod Sounding

@@ -1,0 +1,13 @@
+pub mod Scales
+pub mod Hierarchies
+pub mod Passes
+pub mod Grounds
+pub mod Meshes
+pub mod Laws
+pub mod Agreements
+pub mod Parts
+pub mod Beginnings
+pub mod Updates
+pub mod Sources
+pub mod OfProblems
+pub mod Sound
