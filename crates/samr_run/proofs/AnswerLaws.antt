@@ -7,12 +7,12 @@ use Rattle.std.proofs.lemmas.Bool.Decides.{nat_tests}
 use Rattle.samr_io.specs.Transfers.{TakesUpTo}
 use Rattle.samr_problem.specs.Reading.{reading}
 use Rattle.samr_run.specs.declared.words.Command.{Command}
-use Rattle.samr_run.specs.declared.words.Command.TheVariants.{Check}
+use Rattle.samr_run.specs.declared.words.Command.TheVariants.{Check, Make}
 use Rattle.samr_problem.specs.Fields.{Fields}
 use Rattle.samr_problem.specs.declared.refusal.Refusal.{Refusal}
 use Rattle.samr_run.specs.declared.answer.Ending.TheVariants.{Words}
 use Rattle.samr_run.specs.Words.{command_of}
-use Rattle.samr_run.specs.Check.{check_text}
+use Rattle.samr_report.specs.Level0Text.{check_text}
 use Rattle.samr_run.specs.Answer.{answer, answer_of, bad_words, command_answer}
 
 pub answer-bad_words : (words : List (List ℕ)) (input : List ℕ) → command_of words ≡ None → answer words input ≡ bad_words
@@ -38,6 +38,16 @@ reading-cut input = elim (cases_lt (length input) 1048577) [
 pub command_answer-cut : (input : List ℕ) (command : Command) → command_answer (take 1048577 input) command ≡ command_answer input command
 unfolding command_answer
 command_answer-cut input (Check ranks) = ap (answer_of (λ p. check_text p ranks)) (reading-cut input)
+command_answer-cut input (Make seed size) = refl
+
+pub checked_is : (input : List ℕ) (ranks : ℕ) → command_answer input (Check ranks) ≡ answer_of (λ p. check_text p ranks) (reading input)
+unfolding command_answer
+checked_is input ranks = refl
+
+-- what is made does not look at the input
+pub made_is : (one other : List ℕ) (seed size : ℕ) → command_answer one (Make seed size) ≡ command_answer other (Make seed size)
+unfolding command_answer
+made_is one other seed size = refl
 
 -- a command is answered, so its words were not bad
 answer_of-ending : (f : Fields → List ℕ) (v : Result Fields Refusal) → (answer_of f v).ending ≡ Words → ⊥
@@ -47,6 +57,7 @@ answer_of-ending f (Err r) is = cc
 pub command_answer-ending : (input : List ℕ) (command : Command) → (command_answer input command).ending ≡ Words → ⊥
 unfolding command_answer
 command_answer-ending input (Check ranks) is = answer_of-ending (λ p. check_text p ranks) (reading input) is
+command_answer-ending input (Make seed size) is = cc
 
 -- what is known of the bytes that a source gave
 pub given : (old new : Option (List ℕ)) (limit : ℕ) (bytes : List ℕ) → TakesUpTo old new limit bytes → IfSome old (λ xs. bytes ≡ take limit xs)

@@ -1,3 +1,5 @@
+//! An answer: how a run ends, and its text.
+
 use std::marker::Model;
 
 /// How a run ends where nothing outside fails.

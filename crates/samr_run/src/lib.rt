@@ -2,9 +2,6 @@
 #![tactic(auto)]
 
 mod answer;
-mod check;
-mod level_lines;
-mod lines;
 mod plain;
 mod reply;
 mod words;

@@ -1,7 +1,9 @@
-ghost use Rattle.std.specs.Prelude.{◌≡◌, ◌⊎◌, List, ℕ, None, IfSome};
+//! The call that does all that the program does.
+
+ghost use Rattle.std.specs.Prelude.{◌≡◌, ◌⊎◌, List, ℕ, None, false, IfSome};
 ghost use Rattle.samr_io.specs.Faults.{Rose, RoseByOne};
 ghost use Rattle.samr_io.specs.Transfers.{TakesAtMost};
-ghost use Rattle.samr_run.specs.Answer.{answer, bad_words};
+ghost use Rattle.samr_run.specs.Answer.{answer, bad_words, takes_input};
 ghost use Rattle.samr_run.specs.Words.{command_of, texts};
 ghost use Rattle.samr_run.specs.Written.{Written, status_of, status_number};
 
@@ -63,7 +65,7 @@ pub fn samr_plain<S: Source, K: Sink>(
     // The cause of each answer.
     ensures words { result ≡ Status.Words → command_of (texts words.now) ≡ None }
     ensures bad_words { command_of (texts words.now) ≡ None → Written bad_words result (K.held sink.old) (K.held sink.new) }
-    ensures unread { command_of (texts words.now) ≡ None → source.new ≡ source.old }
+    ensures unread { takes_input (texts words.now) ≡ false → source.new ≡ source.old }
     ensures read_fault { result ≡ Status.ReadFault → RoseByOne (S.faults source.old) (S.faults source.new) }
     ensures write_fault { result ≡ Status.WriteFault → RoseByOne (K.faults sink.old) (K.faults sink.new) }
 

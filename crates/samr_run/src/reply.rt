@@ -1,17 +1,19 @@
-ghost use Rattle.std.specs.Prelude.{◌≡◌, ◌<◌, ◌++◌, ◌∷◌, [], List, ℕ, None, OnOk, IfOk, IfSome};
+//! The answer to the words and the input.
+
+ghost use Rattle.std.specs.Prelude.{◌≡◌, ◌<◌, ◌≤◌, ◌++◌, ◌∷◌, [], List, ℕ, None, false, OnOk, IfOk, IfSome};
 ghost use Rattle.samr_io.specs.Faults.{HasReadCause};
 ghost use Rattle.samr_io.specs.Transfers.{TakesAtMost};
 ghost use Rattle.samr_problem.specs.Reading.{reading};
-ghost use Rattle.samr_run.specs.Answer.{answer_of, answer, bad_words, command_answer, behind_blank, refusal_line};
-ghost use Rattle.samr_run.specs.Check.{check_text};
+ghost use Rattle.samr_run.specs.Answer.{answer_of, answer, bad_words, command_answer, reads, takes_input, behind_blank, refusal_line};
+ghost use Rattle.samr_report.specs.Level0Text.{check_text};
 ghost use Rattle.samr_run.specs.Words.{IsCommand, command_of, texts};
 
 use crate::answer::{Ending, Reply};
-use crate::check::check_text;
-use crate::lines::{put_count, put_line};
 use crate::words::{Command, command_of};
+use samr_generate::make_text;
 use samr_io::{ReadError, Source, read_up_to};
 use samr_problem::{Refusal, Unread, read_problem};
+use samr_report::{check_text, put_count, put_line};
 use std::alloc::{AllocError as NoMemory, Global};
 
 /// One byte more than a problem may have.
@@ -77,13 +79,48 @@ fn check_reply(alloc: Global, ranks: u16, input: &[u8]) -> Result<Reply, NoMemor
     }
 }
 
+/// The answer to `make`, whatever the input.
 #[tactic(auto, unfolding(crate::specs::Answer::command_answer))]
-fn command_reply(alloc: Global, command: Command, input: &[u8]) -> Result<Reply, NoMemory>
+fn made_reply(alloc: Global, seed: u32, size: u32) -> Result<Reply, NoMemory>
+    requires some { 1 ≤ size }
+    requires few { size ≤ 64 }
+    ensures { (input : List ℕ) → IfOk result (λ reply. reply ≡ command_answer input (Command.Make seed size)) }
+{
+    let text = make_text(alloc, seed, size)?;
+    Ok(Reply {
+        ending: Ending::Done,
+        text,
+    })
+}
+
+/// The answer to `check`, with the input read.
+fn read_reply<S: Source>(alloc: Global, ranks: u16, source: &mut S) -> Result<Reply, ReadError>
+    requires { 0 < ranks }
+    ensures told { IfOk result (λ r. IfSome (S.left source.old) (λ input. r ≡ command_answer input (Command.Check ranks))) }
+    ensures some { IfOk result (λ r. (input : List ℕ) × (r ≡ command_answer input (Command.Check ranks))) }
+    ensures most { TakesAtMost (S.left source.old) (S.left source.new) 1048577 }
+    ensures cause { HasReadCause (S.faults source.old) (S.faults source.new) result }
+{
+    let input = read_up_to(alloc, source, MOST_BYTES)?;
+    Ok(check_reply(alloc, ranks, input.as_slice())?)
+}
+
+/// The answer to a command, with the input read where it takes one.
+fn command_reply<S: Source>(
+    alloc: Global,
+    command: Command,
+    source: &mut S,
+) -> Result<Reply, ReadError>
     requires { IsCommand command }
-    ensures { IfOk result (λ reply. reply ≡ command_answer input.now command) }
+    ensures told { IfOk result (λ r. IfSome (S.left source.old) (λ input. r ≡ command_answer input command)) }
+    ensures some { IfOk result (λ r. (input : List ℕ) × (r ≡ command_answer input command)) }
+    ensures unread { reads command ≡ false → source.new ≡ source.old }
+    ensures most { TakesAtMost (S.left source.old) (S.left source.new) 1048577 }
+    ensures cause { HasReadCause (S.faults source.old) (S.faults source.new) result }
 {
     match command {
-        Command::Check(ranks) => check_reply(alloc, ranks, input),
+        Command::Check(ranks) => read_reply(alloc, ranks, source),
+        Command::Make { seed, size } => Ok(made_reply(alloc, seed, size)?),
     }
 }
 
@@ -92,7 +129,7 @@ pub fn reply<S: Source>(alloc: Global, words: &[String], source: &mut S) -> Resu
     ensures told { IfOk result (λ r. IfSome (S.left source.old) (λ input. r ≡ answer (texts words.now) input)) }
     ensures some { IfOk result (λ r. (input : List ℕ) × (r ≡ answer (texts words.now) input)) }
     ensures words { command_of (texts words.now) ≡ None → IfOk result (λ r. r ≡ bad_words) }
-    ensures unread { command_of (texts words.now) ≡ None → source.new ≡ source.old }
+    ensures unread { takes_input (texts words.now) ≡ false → source.new ≡ source.old }
     ensures only { IfOk result (λ r. r.ending ≡ Ending.Words → command_of (texts words.now) ≡ None) }
     ensures most { TakesAtMost (S.left source.old) (S.left source.new) 1048577 }
     ensures cause { HasReadCause (S.faults source.old) (S.faults source.new) result }
@@ -100,6 +137,6 @@ pub fn reply<S: Source>(alloc: Global, words: &[String], source: &mut S) -> Resu
     let Some(command) = command_of(words) else {
         return Ok(bad_words(alloc)?);
     };
-    let input = read_up_to(alloc, source, MOST_BYTES)?;
-    Ok(command_reply(alloc, command, input.as_slice())?)
+    let reply = command_reply(alloc, command, source)?;
+    Ok(reply)
 }

@@ -1,3 +1,5 @@
+//! What the call answers and writes: texts, refusals, faults and statuses.
+
 use crate::{Status, samr_plain};
 use samr_io::{MemSink, MemSource};
 use std::test::Fail;
@@ -100,6 +102,30 @@ fn check_prints_the_edges_of_level_0(rt: HostRuntime) -> Result<(), Fail> {
     assert!(rt;
         text.as_str()
             .starts_with("samr ranks 1 levels 2 width 2 2 0\n")
+    );
+    Ok(())
+}
+
+/// The problem of seed 1 and size 1.
+const MADE: &str =
+    "format = 1\ndim = 2\ndomain = [8, 8]\nperiodic = [true, true]\nblock = [8, 8]\nghost = [1, 1]\nlevels = 3\nnest = [1, 1]\ntag_buffer = [1, 1]\nefficiency = 70\nsmallest = 2\nlargest = 32\nregrid = 2\nsteps = 8\nmodulus = 1000000\ninit = [0, 1, 3]\nupdate = [1, 1]\n\n[[ball]]\nat = [14, 17]\nradius = 1\nvelocity = [-2, 4]\n";
+
+#[test]
+fn make_prints_a_problem_and_reads_nothing(rt: HostRuntime) -> Result<(), Fail> {
+    for words in ["make --seed 1 --size 1", "make --size 1 --seed 1"] {
+        let (status, text) = outcome(&rt, words, BLOCKS.as_bytes(), Some(0), 65536, None)?;
+        assert_eq!(rt; text.as_str(), MADE, "{words}");
+        assert_eq!(rt; status, Status::Done);
+    }
+    for words in ["make --seed 0 --size 64", "make --seed 4294967295 --size 1"] {
+        let (status, _) = outcome(&rt, words, BLOCKS.as_bytes(), Some(0), 65536, None)?;
+        assert_eq!(rt; status, Status::Done, "{words}");
+    }
+    let (status, text) = outcome(&rt, "check --ranks 1", MADE.as_bytes(), None, 65536, None)?;
+    assert_eq!(rt; status, Status::Done);
+    assert!(rt;
+        text.as_str()
+            .starts_with("samr ranks 1 levels 3 width 1 1 0\n")
     );
     Ok(())
 }
@@ -247,6 +273,18 @@ fn other_words_are_bad_words(rt: HostRuntime) -> Result<(), Fail> {
         "run --ranks 2",
         "load --seed 1 --size 8 --ranks 4",
         "sim --ranks 2",
+        "make",
+        "make --seed 1",
+        "make --size 1",
+        "make --seed 1 --seed 1",
+        "make --seed 1 --size 0",
+        "make --seed 1 --size 65",
+        "make --seed 4294967296 --size 1",
+        "make --seed 01 --size 1",
+        "make --seed -1 --size 1",
+        "make --seed 1 --ranks 1",
+        "make --seed 1 --size 1 --ranks 1",
+        "make 1 1",
     ];
     for words in rows {
         let (status, text) = outcome(&rt, words, BLOCKS.as_bytes(), Some(0), 65536, None)?;

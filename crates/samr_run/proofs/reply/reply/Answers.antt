@@ -1,6 +1,6 @@
-use Rattle.std.proofs.Common.{◌≡◌, ℕ, List, [], sym, ap, ◌∙◌, take}
+use Rattle.std.proofs.Common.{◌≡◌, [], sym, ap, ◌∙◌}
 use Rattle.samr_run.specs.Answer.{Answer, command_answer}
-use Rattle.samr_run.proofs.AnswerLaws.{answer-bad_words, answer-command, command_answer-cut, command_answer-ending, given, if_known, for_known}
+use Rattle.samr_run.proofs.AnswerLaws.{answer-bad_words, answer-command, command_answer-ending, if_known, for_known}
 use Rattle.samr_run.proofs.reply.reply.Goals as goal
 
 pub returns-in_default-clause-told : goal.returns-in_default-clause-told
@@ -11,17 +11,16 @@ returns-in_default-clause-some g c = ([], c.in_ok-bad_words.ensures ∙ sym (ans
 
 pub returns-clause-told : goal.returns-clause-told
 returns-clause-told g c =
-    if_known _ (λ xs. c.in_ok-input.input.items ≡ take 1048577 xs) _
-    (λ xs bytes.
-    c.in_ok-command_reply.ensures
-    ∙ ap (λ (input : List ℕ). command_answer input c.in-Some.command) (c.as_slice.ensures.value ∙ bytes)
-    ∙ command_answer-cut xs c.in-Some.command
-    ∙ sym (answer-command _ xs _ (sym c.in-Some.ensures.value)))
-    (given _ _ _ _ c.in_ok-input.ensures.ok)
+    if_known _ (λ input. c.in_ok-reply.reply ≡ command_answer input c.in-Some.command) _
+    (λ input told. told ∙ sym (answer-command _ input _ (sym c.in-Some.ensures.value)))
+    c.in_ok-reply.ensures.told
 
 pub returns-clause-some : goal.returns-clause-some
 returns-clause-some g c =
-    (c.as_slice.result.now, c.in_ok-command_reply.ensures ∙ sym (answer-command _ c.as_slice.result.now _ (sym c.in-Some.ensures.value)))
+    let some = c.in_ok-reply.ensures.some in
+    (some.0, some.1 ∙ sym (answer-command _ some.0 _ (sym c.in-Some.ensures.value)))
 
 pub returns-clause-only : goal.returns-clause-only
-returns-clause-only g c = λ words. absurd (command_answer-ending _ c.in-Some.command (ap (λ (a : Answer). a.ending) (sym c.in_ok-command_reply.ensures) ∙ words))
+returns-clause-only g c =
+    let some = c.in_ok-reply.ensures.some in
+    λ words. absurd (command_answer-ending some.0 c.in-Some.command (ap (λ (a : Answer). a.ending) (sym some.1) ∙ words))

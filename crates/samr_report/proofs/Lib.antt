@@ -1,0 +1,16 @@
+pub mod Pieces
+pub mod Ranges
+pub mod Firsts
+pub mod ByOwner
+pub mod LinesByRank
+pub mod NumberProofs
+pub mod RowsByRank
+pub mod MeshTexts
+pub mod WholeRuns
+pub mod Weights
+pub mod Countable
+pub mod Reduced
+pub mod FirstFields
+pub mod Sums
+pub mod Summing
+pub mod SummingBounds

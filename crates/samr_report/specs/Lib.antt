@@ -1,0 +1,12 @@
+pub mod Lines
+pub mod LevelLines
+pub mod ScheduleLines
+pub mod ValueLines
+pub mod Report
+pub mod Level0Text
+pub mod LoadText
+pub mod Merging
+pub mod Numbers
+pub mod RankRows
+pub mod Bounds
+pub mod Summaries

@@ -1,6 +1,0 @@
-use Rattle.std.proofs.Common.{◌≡◌, ◌++◌, take}
-use Rattle.samr_run.specs.Lines.{blank_numbers}
-use Rattle.samr_run.proofs.lines.put_numbers.Given as goal
-
-abbrev pub invariant-loop-number : goal.invariant-loop-number
-invariant-loop-number l = l.out.items ≡ l.fn.out.items ++ blank_numbers (take l.number-index l.numbers)
