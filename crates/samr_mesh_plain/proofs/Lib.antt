@@ -1,0 +1,9 @@
+pub mod CellFields
+pub mod OwnTags
+pub mod LevelFacts
+pub mod ShapeFacts
+pub mod TagFacts
+pub mod ClusterFacts
+pub mod CutFacts
+pub mod RootFacts
+pub mod MeshFacts
