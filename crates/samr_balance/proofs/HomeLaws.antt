@@ -23,7 +23,7 @@ use Rattle.samr_load.proofs.Totals.{Each, each_sorted}
 use Rattle.samr_load.proofs.Bound.{balance_bound}
 use Rattle.samr_load.proofs.Wholes.{all_cells, all_owned, range_below}
 use Rattle.samr_balance.specs.declared.homed.Homed.{Homed}
-use Rattle.samr_balance.specs.Homes.{Homes, balancing_of, pieces_in, news_on, news_of, move_of, olds_of, homed_of, AreHomes}
+use Rattle.samr_balance.specs.Home.{Homes, balancing_of, pieces_in, news_on, news_of, move_of, olds_of, homed_of, AreHomes}
 use Rattle.samr_balance.specs.Laws.{IsKept, IsHomed}
 use Rattle.samr_balance.proofs.Counts.{sum-sorted, sum-map, sum-filter, sum-same, sum-flat_map, is_equal}
 

@@ -7,11 +7,11 @@ use Rattle.std.specs.Prelude.{true, cond, ◌&&◌, not, List, [], ◌∷◌, su
 use Rattle.samr_box.specs.Lists.{Member}
 use Rattle.samr_load.specs.Pieces.{Placed, size_of}
 use Rattle.samr_load.proofs.Shapes.{some_cells}
-use Rattle.samr_balance.specs.Homes.{pieces_in}
+use Rattle.samr_balance.specs.Home.{pieces_in}
 use Rattle.samr_balance.specs.HomeRow.{size_for, told_of, weight, line_of, home_row}
 use Rattle.samr_balance.specs.StageLaws.{passes, within_both}
 use Rattle.samr_balance.specs.Laws.{LettersGoHome}
-use Rattle.samr_balance.proofs.HomeRows.{weight_is, solid_pieces}
+use Rattle.samr_balance.proofs.HomeRowLaws.{weight_is, solid_pieces}
 
 member_for : (rank : ℕ) (pieces : List Placed) → 0 < sum_by (size_for rank) pieces → (q : Placed) × Member q pieces × (q.origin.owner ≡ rank)
 member_for rank [] some = absurd (omega (arith, some))

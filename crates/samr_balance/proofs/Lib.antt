@@ -1,12 +1,12 @@
 pub mod FamilyLines
 pub mod RoundHands
-pub mod UpLemmas
-pub mod DownLemmas
+pub mod WayUpStage
+pub mod WayDownStage
 pub mod Counts
 pub mod LineSums
 pub mod CuttingOrder
-pub mod HomeRows
-pub mod HomeEnds
-pub mod AllLemmas
+pub mod HomeRowLaws
+pub mod HomeStage
+pub mod OnAllLaws
 pub mod HomeLaws
 pub mod HomeTold

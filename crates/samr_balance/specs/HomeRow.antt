@@ -7,7 +7,7 @@ use Rattle.samr_box.specs.Orders.{corner_cmp}
 use Rattle.samr_level.specs.Refs.{Owned}
 use Rattle.samr_load.specs.Pieces.{Placed, size_of, sorted, of_origin}
 use Rattle.samr_load.specs.Balanced.{owned_by}
-use Rattle.samr_balance.specs.Homes.{Homes, pieces_in}
+use Rattle.samr_balance.specs.Home.{Homes, pieces_in}
 
 -- a piece as its owner tells of it: the box that it was cut from, and its own
 pub record Cutting : Type 0 where

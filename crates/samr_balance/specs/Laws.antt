@@ -13,7 +13,7 @@ use Rattle.samr_load.specs.Taking.{across}
 use Rattle.samr_load.specs.Balanced.{cells_in}
 use Rattle.samr_load.specs.Laws.{boxes_of, same_as, grain}
 use Rattle.samr_balance.specs.declared.homed.Homed.{Homed}
-use Rattle.samr_balance.specs.Homes.{Homes, pieces_in, homed_of, AreHomes}
+use Rattle.samr_balance.specs.Home.{Homes, pieces_in, homed_of, AreHomes}
 use Rattle.samr_balance.specs.HomeRow.{home_row}
 
 -- what becomes of a box: new boxes that are not empty, on the ranks, and lie in it. Each cell lies in as many of them as in the

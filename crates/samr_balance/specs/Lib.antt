@@ -1,7 +1,7 @@
 pub mod Rounds
 pub mod WayUp
 pub mod WayDown
-pub mod Homes
+pub mod Home
 pub mod HomeRow
 pub mod StageLaws
 pub mod OnAll

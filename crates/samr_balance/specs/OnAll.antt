@@ -5,7 +5,7 @@ use Rattle.samr_level.specs.Refs.{Owned}
 use Rattle.samr_load.specs.Balanced.{quota_of, cells_in}
 use Rattle.samr_balance.specs.declared.hands.Hand.{Hand}
 use Rattle.samr_balance.specs.Rounds.{Round}
-use Rattle.samr_balance.specs.Homes.{Homes, balancing_of}
+use Rattle.samr_balance.specs.Home.{Homes, balancing_of}
 
 -- the boxes, with equal shares of their cells, and a round of their balance
 abbrev pub homes_of : ℕ → ℕ → List Owned → Homes

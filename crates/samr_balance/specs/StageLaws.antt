@@ -9,7 +9,7 @@ use Rattle.samr_load.specs.Descent.{got}
 use Rattle.samr_balance.specs.Rounds.{Round}
 use Rattle.samr_balance.specs.WayUp.{gift, up_row}
 use Rattle.samr_balance.specs.WayDown.{is_given, down_row}
-use Rattle.samr_balance.specs.Homes.{Homes, pieces_in}
+use Rattle.samr_balance.specs.Home.{Homes, pieces_in}
 use Rattle.samr_balance.specs.HomeRow.{Cutting, told_of, weight, line_of, home_row}
 
 pub passes : {B : Type 0} (t : Bool) (body : B) → IsTrue (is_some (cond t (Some body) None)) → t ≡ true

@@ -6,14 +6,14 @@ use Rattle.samr_load.specs.Pieces.{Placed}
 use Rattle.samr_load.specs.Ascent.{Balancing, up}
 use Rattle.samr_balance.specs.declared.hands.Needs.{Needs}
 use Rattle.samr_balance.specs.declared.hands.Hand.{Hand}
-use Rattle.samr_balance.specs.declared.hands.Given.{Given}
+use Rattle.samr_balance.specs.declared.hands.Gift.{Gift}
 use Rattle.samr_balance.specs.Rounds.{Round, next, going_up, IsPart}
 
 -- what a rank gives its parent
-abbrev pub gift : Balancing → ℕ → Given
+abbrev pub gift : Balancing → ℕ → Gift
 gift b rank = record { pieces = (up b rank).given; need = (up b rank).need }
 
-unfoldable pub up_row : Round → ℕ → ℕ → Option Given
+unfoldable pub up_row : Round → ℕ → ℕ → Option Gift
 up_row w from to =
     if (tells_up w.balancing.ranks w.round from && nat_eq ((from - 1) / 2) to) then Some (gift w.balancing from) else None
 
@@ -25,7 +25,7 @@ abbrev pub after_up : Round → ℕ → Hand
 after_up w rank = going_up (next w) rank
 
 -- the needs with that of one more child
-abbrev pub with_need : Needs → Held Given → Needs
+abbrev pub with_need : Needs → Held Gift → Needs
 with_need needs letter =
     if nat_eq (letter.sender % 2) 1 then record { first = letter.body.need; second = needs.second }
     else record { first = needs.first; second = letter.body.need }

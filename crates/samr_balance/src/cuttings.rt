@@ -1,3 +1,5 @@
+//! Pieces as a rank tells of them to the owner of the box that they were cut from.
+
 ghost use Rattle.std.specs.Prelude.{◌≡◌, ◌++◌, ◌<◌, ◌^◌, nat_eq, map, filter, IfOk, OnOk};
 ghost use Rattle.std.specs.Ordering.{is_eq};
 ghost use Rattle.samr_box.specs.Orders.{corner_cmp};

@@ -1,3 +1,5 @@
+//! What a rank has in the tree, and what it gives its parent.
+
 use samr_box::Listed;
 use samr_load::Piece;
 
@@ -17,7 +19,7 @@ pub struct Hand {
 
 /// What a rank gives its parent, in the order in which it was taken, and how many cells it needs of it.
 #[derive(Debug, Drop)]
-pub struct Given {
+pub struct Gift {
     pub pieces: Listed<Piece>,
     pub need: u64,
 }

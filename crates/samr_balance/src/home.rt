@@ -1,3 +1,5 @@
+//! The last stage: each rank tells the owners of boxes which pieces of these it has.
+
 ghost use Rattle.std.specs.Prelude.{◌≡◌, ℕ, ◌++◌, ◌<◌, ◌^◌, [], map, sum_by, IsOk, IfOk, OnOk};
 ghost use Rattle.std.specs.List.{flat_map, cons_option};
 ghost use Rattle.std.specs.Option.{option_map};
@@ -7,7 +9,7 @@ ghost use Rattle.samr_box.specs.Corners.{cells_of};
 ghost use Rattle.samr_level.specs.Refs.{Owned};
 ghost use Rattle.samr_level.specs.RefOrders.{ref_cmp};
 ghost use Rattle.samr_load.specs.Pieces.{sorted};
-ghost use Rattle.samr_balance.specs.Homes.{Homes, IsHome, HasPieces};
+ghost use Rattle.samr_balance.specs.Home.{Homes, IsHome, HasPieces};
 ghost use Rattle.samr_balance.specs.Laws.{IsHomed};
 ghost use Rattle.samr_balance.specs.HomeRow.{size_for, told_of, weight, line_of, home_row, told_on, kept_on};
 ghost use Rattle.samr_balance.specs.StageLaws.{home_between, home_positive};

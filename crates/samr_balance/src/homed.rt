@@ -1,3 +1,5 @@
+//! What a rank has once its boxes are balanced.
+
 use samr_box::Listed;
 use samr_level::Mapping;
 use samr_load::Piece;

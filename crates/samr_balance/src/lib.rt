@@ -17,13 +17,10 @@ mod way_down;
 mod way_up;
 
 pub use cuttings::Cutting;
-pub use hands::{Given, Hand, Needs};
+pub use hands::{Gift, Hand, Needs};
 pub use home::Home;
 pub use homed::Homed;
 pub use laws::letters_go_home;
 pub use on_all::balance_all;
 pub use way_down::Down;
 pub use way_up::Up;
-
-#[cfg(test)]
-mod tests;

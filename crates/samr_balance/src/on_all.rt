@@ -1,3 +1,5 @@
+//! The balance on all ranks, on one thread, round by round.
+
 ghost use Rattle.std.specs.Prelude.{◌≡◌, ◌+◌, ◌<◌, ◌^◌, pos, ◌≤ℤ◌, unsigned_abs, length, map, All, IfOk};
 ghost use Rattle.std.specs.List.{range_with_len};
 ghost use Rattle.samr_box.specs.Vector.{AtMost};
@@ -7,7 +9,7 @@ ghost use Rattle.samr_load.specs.Pieces.{whole};
 ghost use Rattle.samr_load.specs.Balanced.{cells_in};
 ghost use Rattle.samr_load.specs.Laws.{AreOwned, boxes_of};
 ghost use Rattle.samr_balance.specs.Rounds.{going_up, going_down};
-ghost use Rattle.samr_balance.specs.Homes.{homed_of};
+ghost use Rattle.samr_balance.specs.Home.{homed_of};
 ghost use Rattle.samr_balance.specs.OnAll.{homes_of, round_at, AreHands};
 
 use crate::hands::{Hand, Needs};

@@ -1,3 +1,5 @@
+//! Whose turn it is in a round of the way up and of the way down.
+
 ghost use Rattle.std.specs.Prelude.{◌≡◌, ◌<◌};
 ghost use Rattle.samr_tree.specs.Tree.{tells_up, told_down};
 

@@ -1,3 +1,5 @@
+//! The stage of a round of the way up the tree.
+
 ghost use Rattle.std.specs.Prelude.{◌≡◌, ℕ, ◌++◌, ◌+◌, ◌<◌, ◌^◌, ◌%◌, pos, ◌≤ℤ◌, nat_eq, IsOk, IfOk, OnOk, if◌then◌else◌, fold};
 ghost use Rattle.std.specs.List.{flat_map};
 ghost use Rattle.std.specs.Option.{ForSome, option_map_or};
@@ -8,7 +10,7 @@ ghost use Rattle.samr_balance.specs.Rounds.{Round};
 ghost use Rattle.samr_balance.specs.WayUp.{up_row, after_up, with_need, IsUp, HasGivenUp};
 ghost use Rattle.samr_balance.specs.StageLaws.{up_between, heavy};
 
-use crate::hands::{Given, Hand, Needs};
+use crate::hands::{Gift, Hand, Needs};
 use crate::turns::tells_up;
 use samr_box::Listed;
 use samr_load::{Climbed, Piece, climb};
@@ -91,7 +93,7 @@ fn with_need(needs: Needs, sender: u16, need: u64) -> Needs
 }
 
 /// The needs that the children have told of.
-fn needs_told(needs: Needs, held: &[Held<Given>]) -> Needs
+fn needs_told(needs: Needs, held: &[Held<Gift>]) -> Needs
     ensures { result ≡ fold with_need needs held.now }
 {
     let mut all = needs;
@@ -102,7 +104,7 @@ fn needs_told(needs: Needs, held: &[Held<Given>]) -> Needs
 }
 
 /// A hand with the pieces that the children gave.
-fn with_gifts(mut hand: Vec<Piece>, held: &[Held<Given>]) -> Result<Vec<Piece>, NoMemory>
+fn with_gifts(mut hand: Vec<Piece>, held: &[Held<Gift>]) -> Result<Vec<Piece>, NoMemory>
     ensures { IfOk result (λ v. v.items ≡ hand.items ++ flat_map (λ letter. letter.body.pieces) held.now) }
 {
     for letter in held {
@@ -112,7 +114,7 @@ fn with_gifts(mut hand: Vec<Piece>, held: &[Held<Given>]) -> Result<Vec<Piece>, 
 }
 
 impl Stage for Up {
-    type Body = Given;
+    type Body = Gift;
 
     type Out = Hand;
 
@@ -130,7 +132,7 @@ impl Stage for Up {
 
     ghost waits = { λ s w rank. HasGivenUp s.rank s.ranks s.round s.hand.items s.needs s.quota s.smallest w rank };
 
-    fn letters(&mut self, alloc: Global) -> Result<Vec<(u16, Given)>, NoMemory> {
+    fn letters(&mut self, alloc: Global) -> Result<Vec<(u16, Gift)>, NoMemory> {
         let mut letters = Vec::new(alloc);
         if !tells_up(self.rank, self.ranks, self.round) {
             return Ok(letters);
@@ -144,11 +146,11 @@ impl Stage for Up {
         let Climbed { kept, given, need } = parts;
         self.hand = kept;
         let pieces = Listed::from_vec(given);
-        letters.push((above, Given { pieces, need }))?;
+        letters.push((above, Gift { pieces, need }))?;
         Ok(letters)
     }
 
-    fn weight(&self, _body: &Given) -> u64 {
+    fn weight(&self, _body: &Gift) -> u64 {
         1
     }
 
@@ -157,7 +159,7 @@ impl Stage for Up {
         count_told(first, self.ranks, self.round) + count_told(second, self.ranks, self.round)
     }
 
-    fn finish(self, _alloc: Global, held: Vec<Held<Given>>) -> Result<Hand, NoMemory>
+    fn finish(self, _alloc: Global, held: Vec<Held<Gift>>) -> Result<Hand, NoMemory>
         requires { (w : Round) × (rank : ℕ) × HasGivenUp self.rank self.ranks self.round self.hand.items self.needs self.quota self.smallest w rank
             × (held.items ≡ heard (column (up_row w) rank) w.balancing.ranks) }
         ensures { IfOk result (λ out. (w : Round) (rank : ℕ)

@@ -1,3 +1,5 @@
+//! Level 0 of more and more boxes, bridged with itself.
+
 ghost use Rattle.std.specs.Prelude.{pos, ◌≤ℤ◌};
 ghost use Rattle.samr_box.specs.Space.{IsSpace};
 

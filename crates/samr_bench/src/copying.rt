@@ -1,3 +1,5 @@
+//! Copies and packs of a patch's cells against a plain copy of as many values.
+
 use crate::report::{Sample, print_race};
 use samr_box::{IBox, IVec, holds_box};
 use samr_data::Patch;

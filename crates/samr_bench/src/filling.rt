@@ -1,3 +1,5 @@
+//! Fills of level 0 of more and more boxes.
+
 ghost use Rattle.std.specs.Prelude.{pos, ◌≤ℤ◌};
 ghost use Rattle.samr_ops.specs.Rules.{IsRules};
 

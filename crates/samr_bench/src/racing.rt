@@ -1,3 +1,5 @@
+//! Sums and rings on more and more ranks, in threads against one thread.
+
 ghost use Rattle.std.specs.Prelude.{◌≡◌, ◌<◌};
 
 use crate::report::{Case, Times, print_case};

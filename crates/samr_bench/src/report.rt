@@ -1,3 +1,5 @@
+//! What was measured, and how it is printed.
+
 use std::io;
 use std::time::Duration;
 

@@ -1,3 +1,5 @@
+//! The time of the clock and of the processors.
+
 use crate::report::{Times, nanoseconds};
 use std::io;
 use std::rt::Clock;

@@ -1,3 +1,5 @@
+//! Tags and clusters of larger and larger fields, and counts by words against counts by cells.
+
 ghost use Rattle.std.specs.Prelude.{pos, ◌≤ℤ◌, ◌<ℤ◌, ◌<◌, ◌^◌, IfOk};
 ghost use Rattle.samr_box.specs.Corners.{cells_of};
 

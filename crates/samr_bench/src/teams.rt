@@ -1,3 +1,5 @@
+//! The programs of sums and relays.
+
 ghost use Rattle.std.specs.Prelude.{◌≡◌, ◌<◌, length, IfOk};
 ghost use Rattle.samr_world.specs.World.{IsTeam};
 ghost use Rattle.samr_tree.specs.TreeSum.{AreSummable};

@@ -1,3 +1,5 @@
+//! How many bits of a row or of a run are set.
+
 ghost use Rattle.std.specs.Prelude.{◌≡◌, ◌+◌, ◌*◌, ◌%◌, ◌/◌, ◌<◌, ◌≤◌, ◌^◌, length, slice_index};
 ghost use Rattle.samr_bits.specs.Bits.{ones_of, bits_of, set_among};
 

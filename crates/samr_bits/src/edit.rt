@@ -1,3 +1,5 @@
+//! Bits that are read and set, one at a time or as a run.
+
 ghost use Rattle.std.specs.Prelude.{◌≡◌, ℕ, ◌+◌, ◌*◌, ◌^◌, ◌<◌, ◌≤◌, ◌||◌, ◌&&◌, nat_eq, nat_le, nat_lt, length};
 ghost use Rattle.samr_bits.specs.Bits.{is_set};
 

@@ -9,6 +9,3 @@ mod edit;
 
 pub use count::{count_bits, count_run};
 pub use edit::{get_bit, set_bit, set_run};
-
-#[cfg(test)]
-mod tests;

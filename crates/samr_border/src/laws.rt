@@ -1,3 +1,5 @@
+//! The laws of wrapping, each as the contract of a function without a body to speak of.
+
 ghost use Rattle.samr_border.specs.Laws.{TurnsLeadHome, OneImageHasACell, ImagesHaveWrappedCells, WrappingTwiceIsOnce, CellsOfTheFrameStay, NeighboursAreNear, WrapsOfLevelsAgree};
 
 /// The law that a cell near the frame, less its turns, is the cell to which it wraps.

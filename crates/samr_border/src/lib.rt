@@ -12,6 +12,3 @@ pub use laws::{
     turns_lead_home, wrapping_twice_is_once, wraps_of_levels_agree,
 };
 pub use turning::turns;
-
-#[cfg(test)]
-mod tests;

@@ -1,3 +1,5 @@
+//! How many lengths of the domain lie between a cell and the cell to which it wraps.
+
 ghost use Rattle.std.specs.Prelude.{◌≡◌};
 ghost use Rattle.samr_box.specs.Vector.{at, minus, times};
 ghost use Rattle.samr_box.specs.Space.{IsSpace, wrapped};

@@ -1,3 +1,5 @@
+//! Beyond the borders of a domain: images of boxes, wrapped cells, clamped and mirrored coordinates.
+
 ghost use Rattle.std.specs.Prelude.{◌≡◌, ◌↔◌, ℤ, pos, neg_ℤ, ◌+ℤ◌, ◌-ℤ◌, ◌*ℤ◌, ◌≤ℤ◌, ◌<ℤ◌, true, false, IsTrue};
 ghost use Rattle.samr_box.specs.declared.vector.Axis.{Axis};
 ghost use Rattle.samr_box.specs.declared.vector.IVec.{IVec};

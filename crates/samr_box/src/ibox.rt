@@ -1,3 +1,5 @@
+//! Boxes by their two corners: what two have in common, growing, and cutting in two.
+
 ghost use Rattle.std.specs.Prelude.{◌≡◌, ◌↔◌, ◌+ℤ◌, ◌<ℤ◌, ◌≤ℤ◌, ◌*◌, ◌<◌, ◌≤◌, ◌^◌, pos, IsTrue, IsSome, IfSome, IsSomeAnd};
 ghost use Rattle.samr_box.specs.declared.vector.Axis.{Axis};
 ghost use Rattle.samr_box.specs.declared.vector.IVec.{IVec};

@@ -21,6 +21,3 @@ pub use orders::{cell_order, corner_order, shift_order};
 pub use ratios::{coarsen, coarsen_cell, refine};
 pub use space::{Domain, Flags, Ratio, Shift};
 pub use vector::{Axis, IVec};
-
-#[cfg(test)]
-mod tests;

@@ -1,3 +1,5 @@
+//! Lists that contracts see as their items.
+
 ghost use Rattle.std.specs.Prelude.{◌≡◌, [], IfOk, length};
 
 use std::alloc::{AllocError as NoMemory, Global};

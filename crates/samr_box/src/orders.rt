@@ -1,3 +1,5 @@
+//! The orders of cells, shifts and boxes.
+
 ghost use Rattle.std.specs.Prelude.{◌≡◌};
 ghost use Rattle.std.specs.Cmp.{IsTotalOrder};
 ghost use Rattle.samr_box.specs.Orders.{cell_cmp, corner_cmp};

@@ -1,3 +1,5 @@
+//! Cells and boxes in the index spaces of finer and coarser levels.
+
 ghost use Rattle.std.specs.Prelude.{◌≡◌, ◌↔◌};
 ghost use Rattle.samr_box.specs.declared.vector.IVec.{IVec};
 ghost use Rattle.samr_box.specs.Vector.{IsRatio};

@@ -1,3 +1,5 @@
+//! What a level lies in: truth values for each axis, ratios, shifts and domains.
+
 ghost use Rattle.std.specs.Prelude.{◌≡◌, ◌↔◌, IsSome, IfSome, IsTrue, pos, ◌≤ℤ◌, ◌<ℤ◌};
 ghost use Rattle.samr_box.specs.declared.vector.Axis.{Axis};
 ghost use Rattle.samr_box.specs.declared.vector.IVec.{IVec};

@@ -1,3 +1,5 @@
+//! Cells and other triples of whole numbers, and the three axes.
+
 ghost use Rattle.std.specs.Prelude.{◌≡◌, ◌↔◌, ℤ, pos, ◌+ℤ◌, ◌-ℤ◌, ◌≤ℤ◌, int_lt, IsTrue};
 ghost use Rattle.samr_box.specs.Vector.{at, put, alike, at_most, AtMost, plus, minus, times, least, greatest, raised, lowered, FitsVector, InRange};
 

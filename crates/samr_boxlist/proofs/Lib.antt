@@ -3,3 +3,4 @@ pub mod Covering
 pub mod Cutting
 pub mod Disjointness
 pub mod Chopping
+pub mod ChoppedLists

@@ -1,3 +1,5 @@
+//! Boxes cut into pieces of at most so many planes.
+
 ghost use Rattle.std.specs.Prelude.{◌≡◌, [], ◌∷◌, ◌++◌, ℕ, ◌+◌, ◌<◌, pos, ◌≤ℤ◌, unsigned_abs, List, IfOk, OnOk};
 ghost use Rattle.std.specs.List.{All};
 ghost use Rattle.samr_box.specs.declared.vector.IVec.{IVec};

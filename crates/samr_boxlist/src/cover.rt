@@ -1,3 +1,5 @@
+//! What a list of boxes covers: common parts with a box, grown members, and whether members meet.
+
 ghost use Rattle.std.specs.Prelude.{◌≡◌, ◌↔◌, ℕ, pos, List, map, if◌then◌else◌, IfOk, IsTrue, true, not};
 ghost use Rattle.std.specs.List.{All, filter_map, list_any};
 ghost use Rattle.samr_box.specs.declared.vector.IVec.{IVec};

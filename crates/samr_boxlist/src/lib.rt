@@ -13,6 +13,3 @@ pub use chop::chopped;
 pub use cover::{covers, disjoint, grown, intersect};
 pub use cuts::{subtract, subtract_each};
 pub use order::in_corner_order;
-
-#[cfg(test)]
-mod tests;

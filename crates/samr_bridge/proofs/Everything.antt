@@ -12,9 +12,9 @@ use Rattle.samr_level.specs.Overlaps.{scale, true_overlaps, of_rank, IsTrueOverl
 use Rattle.samr_level.proofs.RefLaws.{edge_total, same_from_edge_cmp}
 use Rattle.samr_level.proofs.Sorting.{Member-in_order, Member-from_in_order, sorted-in_order}
 use Rattle.samr_level.proofs.Overlapping.{Member-overlaps, Member-from_overlaps, Member-of_rank, Member-from_of_rank, connector_is, turn, turned_twice}
-use Rattle.samr_bridge.specs.Bridging.{Bridging, IsBridge}
+use Rattle.samr_bridge.specs.Bridge.{Bridging, IsBridge}
 use Rattle.samr_bridge.specs.Found.{found, all_found, bridge_pair, bridge_scale}
-use Rattle.samr_bridge.specs.Rows.{from_centre}
+use Rattle.samr_bridge.specs.BridgeRow.{from_centre}
 use Rattle.samr_bridge.proofs.FoundLaws.{Member-found_by, Member-from_found_by, leave-is}
 use Rattle.samr_bridge.proofs.Ways.{way}
 

@@ -6,7 +6,7 @@ use Rattle.std.specs.Int.{int_max, int_min}
 use Rattle.samr_box.specs.Ratios.{floor}
 use Rattle.samr_box.proofs.Products.{mul_comm, mul_assoc, mul_le, mul_one}
 use Rattle.samr_box.proofs.Floors.{floor-mul, last-from_floor}
-use Rattle.samr_bridge.specs.Bridging.{Divides, AreRefinements}
+use Rattle.samr_bridge.specs.Bridge.{Divides, AreRefinements}
 use Rattle.samr_bridge.proofs.OneAxis.{Tied}
 
 floor_self : (r : ℤ) → pos 1 ≤ℤ r → floor r r ≡ pos 1

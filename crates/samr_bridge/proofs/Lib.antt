@@ -5,6 +5,6 @@ pub mod FoundLaws
 pub mod Everything
 pub mod Windows
 pub mod SearchLaws
-pub mod RowLaws
-pub mod StageLemmas
-pub mod AllLemmas
+pub mod BridgeRowLaws
+pub mod BridgeStage
+pub mod BridgeOnAllLaws

@@ -14,7 +14,7 @@ use Rattle.samr_box.proofs.CellSets.{Meet-test, meets-from}
 use Rattle.samr_level.specs.Refs.{Owned, Link}
 use Rattle.samr_level.specs.Overlaps.{Scale, scale, near, IsTrueOverlap}
 use Rattle.samr_level.proofs.Overlapping.{zero_shift}
-use Rattle.samr_bridge.specs.Bridging.{Bridging, Divides, AreRefinements, IsBridge}
+use Rattle.samr_bridge.specs.Bridge.{Bridging, Divides, AreRefinements, IsBridge}
 use Rattle.samr_bridge.specs.Found.{bridge_scale, IsWay}
 use Rattle.samr_bridge.proofs.OneAxis.{Near, near_cell, near_cell-is, east_cell, centre_east, centre_west}
 use Rattle.samr_bridge.proofs.Factors.{Compared, compared, tied_ratios, not_negative}

@@ -9,7 +9,7 @@ use Rattle.samr_level.specs.Refs.{Owned, Link, link}
 use Rattle.samr_level.specs.RefOrders.{ref_cmp, edge_cmp, in_order}
 use Rattle.samr_level.specs.Overlaps.{Scale, scale, is_true, IsTrueOverlap}
 use Rattle.samr_level.specs.Pairs.{pair}
-use Rattle.samr_bridge.specs.Bridging.{Bridging}
+use Rattle.samr_bridge.specs.Bridge.{Bridging}
 
 -- an edge to the east that moves nothing and an edge to the west leave the same box
 abbrev pub leave_one_box : Link → Link → Bool

@@ -1,6 +1,6 @@
-pub mod Bridging
+pub mod Bridge
 pub mod Found
-pub mod Rows
+pub mod BridgeRow
 pub mod Search
-pub mod Parts
+pub mod BridgeParts
 pub mod StageLaws

@@ -4,9 +4,9 @@ use Rattle.std.proofs.Common.{arith}
 use Rattle.std.proofs.lemmas.Bool.{and_parts, ltb-true}
 use Rattle.std.proofs.lemmas.Bool.Decides.{nat_tests}
 use Rattle.samr_level.specs.Refs.{Link}
-use Rattle.samr_bridge.specs.Bridging.{Bridging}
+use Rattle.samr_bridge.specs.Bridge.{Bridging}
 use Rattle.samr_bridge.specs.Found.{found}
-use Rattle.samr_bridge.specs.Rows.{from_centre, owns_head, about, bridge_row}
+use Rattle.samr_bridge.specs.BridgeRow.{from_centre, owns_head, about, bridge_row}
 
 passes : (t : Bool) (body : List Link) → IsTrue (is_some (cond t (Some body) None)) → t ≡ true
 passes true body h = refl

@@ -1,13 +1,15 @@
+//! The stage of a bridge.
+
 ghost use Rattle.std.specs.Prelude.{◌≡◌, ◌++◌, ℕ, IfOk, OnOk, map};
 ghost use Rattle.std.specs.List.{flat_map};
 ghost use Rattle.samr_box.specs.Vector.{InRange, greatest};
 ghost use Rattle.samr_box.specs.Space.{IsSpace, finer};
 ghost use Rattle.samr_stage.specs.declared.stage.Held.{Held};
 ghost use Rattle.samr_stage.specs.Row.{heard, column};
-ghost use Rattle.samr_bridge.specs.Bridging.{Bridging, IsBridge};
+ghost use Rattle.samr_bridge.specs.Bridge.{Bridging, IsBridge};
 ghost use Rattle.samr_bridge.specs.Found.{bridge_pair};
-ghost use Rattle.samr_bridge.specs.Rows.{bridge_row};
-ghost use Rattle.samr_bridge.specs.Parts.{HasPairs, HasFound};
+ghost use Rattle.samr_bridge.specs.BridgeRow.{bridge_row};
+ghost use Rattle.samr_bridge.specs.BridgeParts.{HasPairs, HasFound};
 ghost use Rattle.samr_bridge.specs.StageLaws.{bridge_between, heavy};
 
 use crate::edges::{about, based_on, gathered, other_owners, turned_on};

@@ -1,8 +1,10 @@
+//! Lists of edges: those of a rank, turned, and the ranks at their heads.
+
 ghost use Rattle.std.specs.Prelude.{◌≡◌, ◌++◌, ◌||◌, nat_eq, not, IfOk, OnOk, map, filter};
 ghost use Rattle.std.specs.List.{flat_map};
 ghost use Rattle.samr_level.specs.Refs.{turned};
 ghost use Rattle.samr_level.specs.Overlaps.{of_rank};
-ghost use Rattle.samr_bridge.specs.Rows.{about, other_owners};
+ghost use Rattle.samr_bridge.specs.BridgeRow.{about, other_owners};
 
 use samr_box::Listed;
 use samr_level::Edge;
@@ -20,7 +22,7 @@ fn concerns(e: Edge, rank: u16) -> bool
 }
 
 /// The edges of which a rank owns the base or the head.
-#[tactic(auto, unfolding(crate::specs::Rows::about))]
+#[tactic(auto, unfolding(crate::specs::BridgeRow::about))]
 pub fn about(alloc: Global, rank: u16, edges: &[Edge]) -> Result<Listed<Edge>, NoMemory>
     ensures { IfOk result (λ body. body ≡ about rank edges.now) }
 {
@@ -106,7 +108,7 @@ fn push_owners(rank: u16, edges: &[Edge], owners: &mut Vec<u16>) -> Result<(), N
 }
 
 /// The other ranks that own a head of edges of two lists, ascending, each once.
-#[tactic(auto, unfolding(crate::specs::Rows::other_owners))]
+#[tactic(auto, unfolding(crate::specs::BridgeRow::other_owners))]
 pub fn other_owners(
     alloc: Global,
     rank: u16,

@@ -1,9 +1,11 @@
+//! The law of the bridge.
+
 ghost use Rattle.std.specs.Prelude.{◌≡◌, ℕ, map};
 ghost use Rattle.samr_level.specs.Refs.{Owned, Link, turned};
 ghost use Rattle.samr_level.specs.RefOrders.{edge_cmp, in_order};
 ghost use Rattle.samr_level.specs.Overlaps.{of_rank, IsTrueOverlap};
 ghost use Rattle.samr_box.specs.Lists.{Member};
-ghost use Rattle.samr_bridge.specs.Bridging.{Bridging, IsBridge};
+ghost use Rattle.samr_bridge.specs.Bridge.{Bridging, IsBridge};
 ghost use Rattle.samr_bridge.specs.Found.{found, all_found, bridge_pair, bridge_scale, IsWay};
 
 /// The law of the bridge, which is its contract; nothing runs.

@@ -5,18 +5,15 @@
 //! each two of them, and tells their owners. `bridge_law` says why nothing is missed.
 #![tactic(auto)]
 
-mod all_ranks;
 mod bridge;
+mod bridge_on_all;
 mod edges;
 mod law;
 mod pairs;
 mod search;
 mod window;
 
-pub use all_ranks::bridge_all;
 pub use bridge::Bridge;
+pub use bridge_on_all::bridge_all;
 pub use law::bridge_law;
 pub use search::found;
-
-#[cfg(test)]
-mod tests;

@@ -1,3 +1,5 @@
+//! The overlaps that edges from one centre box to both sides show, by a look at each two.
+
 ghost use Rattle.std.specs.Prelude.{◌≡◌, ◌++◌, ◌<◌, ◌^◌, IfOk, OnOk, length, map};
 ghost use Rattle.std.specs.List.{All, flat_map};
 ghost use Rattle.samr_box.specs.Corners.{IsBox};

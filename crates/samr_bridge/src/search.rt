@@ -1,3 +1,5 @@
+//! The same overlaps by a look-up of the boxes in a window.
+
 ghost use Rattle.std.specs.Prelude.{◌≡◌, ◌++◌, ◌<◌, ◌^◌, IfOk, OnOk, length, map};
 ghost use Rattle.std.specs.List.{All, flat_map};
 ghost use Rattle.samr_box.specs.Corners.{IsBox};

@@ -1,3 +1,5 @@
+//! Where in the west level to look for the boxes that overlap an east box.
+
 ghost use Rattle.std.specs.Prelude.{◌≡◌};
 ghost use Rattle.samr_box.specs.Vector.{IsRatio, InRange};
 ghost use Rattle.samr_level.specs.Overlaps.{IsScale, scale_in};

@@ -6,14 +6,14 @@ use Rattle.samr_box.specs.Corners.{Corners}
 use Rattle.samr_box.specs.Space.{finer}
 use Rattle.samr_box.specs.Lists.{Member}
 use Rattle.samr_box.proofs.Members.{Member-map, Member-from_map, Member-filter, Member-from_filter, Member-flat_map, Member-from_flat_map}
+use Rattle.samr_level.specs.Levels.{own_boxes}
 use Rattle.samr_rounds.specs.Clusters.{parts, decided}
 use Rattle.samr_rounds.specs.Rounds.{below, told, directed}
-use Rattle.samr_rounds.specs.Owners.{own_boxes}
 use Rattle.samr_rounds.proofs.Open.{Member-below, Member-from_below}
 use Rattle.samr_rounds.proofs.NearLaws.{near_told}
 use Rattle.samr_peers.proofs.PeerRows.{Member-range}
 use Rattle.samr_cluster.specs.declared.nodes.Directed.{Directed}
-use Rattle.samr_cluster.specs.Clustering.{Clustering, IsClustering, near, near_to}
+use Rattle.samr_cluster.specs.Cluster.{Clustering, IsClustering, near, near_to}
 use Rattle.samr_cluster.specs.Rounds.{Round, open_of, told_of, near_of, asked_of, directed_after}
 use Rattle.samr_cluster.proofs.NodeLaws.{near_below, near_member}
 use Rattle.samr_cluster.proofs.DecideLaws.{directed_nodes}

@@ -12,6 +12,7 @@ use Rattle.samr_box.proofs.Members.{Member-map, Member-from_map, Member-filter, 
 use Rattle.samr_level.proofs.Sorting.{Member-in_order, Member-from_in_order, sorted-in_order}
 use Rattle.samr_level.proofs.RefLaws.{same_nat}
 use Rattle.samr_level.proofs.Steps.{map_append}
+use Rattle.samr_level.specs.Levels.{own_boxes}
 use Rattle.samr_sign.specs.declared.decision.Decision.{Decision}
 use Rattle.samr_sign.specs.declared.decision.Decision.TheVariants.{Drop, Accept, Split}
 use Rattle.samr_sign.specs.Decide.{decide_of}
@@ -19,7 +20,7 @@ use Rattle.samr_sign.specs.Counts.{sign}
 use Rattle.samr_rounds.specs.declared.owner.RankTags.{RankTags}
 use Rattle.samr_rounds.specs.Clusters.{accepted, parts, decided}
 use Rattle.samr_rounds.specs.Rounds.{below, told, directed}
-use Rattle.samr_rounds.specs.Owners.{own_boxes, counts_of, owner_in}
+use Rattle.samr_rounds.specs.Owners.{counts_of, owner_in}
 use Rattle.samr_rounds.specs.Laws.{IsNode, AreNodes}
 use Rattle.samr_rounds.proofs.Lists.{any_member, member_any}
 use Rattle.samr_rounds.proofs.Open.{opened_nodes}
@@ -32,10 +33,10 @@ use Rattle.samr_cluster.specs.declared.nodes.Told.{Told}
 use Rattle.samr_cluster.specs.declared.verdict.Verdict.{Verdict}
 use Rattle.samr_cluster.specs.declared.verdict.Verdict.TheVariants.{Taken}
 use Rattle.samr_cluster.specs.declared.verdict.Judged.{Judged}
-use Rattle.samr_cluster.specs.Clustering.{Clustering, IsClustering, near, near_to, accepted_in, owner}
+use Rattle.samr_cluster.specs.Cluster.{Clustering, IsClustering, near, near_to, accepted_in, owner}
 use Rattle.samr_cluster.specs.Accepting.{accepted_as}
 use Rattle.samr_cluster.specs.Rounds.{Round, open_of, told_of, near_of, directors, from_director, near_state, asked_of, directed_after, counted_as, next}
-use Rattle.samr_cluster.specs.Verdicts.{verdict_of, parts_in, taken_in, verdict, judged_as, judge, told_to, verdicts_for}
+use Rattle.samr_cluster.specs.DecideRow.{verdict_of, parts_in, taken_in, verdict, judged_as, judge, told_to, verdicts_for}
 use Rattle.samr_cluster.specs.DecideParts.{other_directors, others_near}
 use Rattle.samr_cluster.proofs.ListLaws.{among, is_among}
 use Rattle.samr_cluster.proofs.NodeLaws.{near_below, near_member}

@@ -13,10 +13,10 @@ use Rattle.samr_cluster.specs.declared.nodes.Reported.{Reported}
 use Rattle.samr_cluster.specs.declared.nodes.Decided.{Decided}
 use Rattle.samr_cluster.specs.declared.verdict.Verdict.{Verdict}
 use Rattle.samr_cluster.specs.declared.verdict.Judged.{Judged}
-use Rattle.samr_cluster.specs.Clustering.{near, accepted_in}
+use Rattle.samr_cluster.specs.Cluster.{near, accepted_in}
 use Rattle.samr_cluster.specs.Accepting.{accepted_as}
 use Rattle.samr_cluster.specs.Rounds.{Round, open_of, told_of, near_of, from_director, near_state, told_state, asked_of, directed_after, accepted_state, next}
-use Rattle.samr_cluster.specs.Verdicts.{parts_in, taken_in, verdict, judged_as, judge, verdicts_for, decide_row}
+use Rattle.samr_cluster.specs.DecideRow.{parts_in, taken_in, verdict, judged_as, judge, verdicts_for, decide_row}
 use Rattle.samr_cluster.specs.DecideParts.{HasReported, HasJudged, other_directors, others_near, decided_state}
 use Rattle.samr_cluster.proofs.SomeRowLaws.{map_agree, some_told, some_count, some_heard}
 use Rattle.samr_cluster.proofs.DecideLaws.{all_judged, verdicts_are, told_by, taken_by, directed_by, none_near, others_near_sorted, near_others, other_directors_sorted, near_directors}

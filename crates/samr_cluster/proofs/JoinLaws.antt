@@ -7,7 +7,7 @@ use Rattle.samr_box.proofs.Members.{Member-flat_map, Member-from_flat_map, Membe
 use Rattle.samr_level.specs.Refs.{Link, link, turned}
 use Rattle.samr_peers.specs.Peers.{TurnsInto, AreTransposes}
 use Rattle.samr_cluster.specs.declared.accepted.Accepted.{Accepted}
-use Rattle.samr_cluster.specs.Clustering.{Clustering, IsClustering}
+use Rattle.samr_cluster.specs.Cluster.{Clustering, IsClustering}
 use Rattle.samr_cluster.specs.Accepting.{near_accepted, own_accepted, cluster_of, held_by, to_owners, to_near}
 use Rattle.samr_cluster.proofs.NodeLaws.{Member-near, Member-from_near, Member-own, Member-from_own, accepted_near_below, owner_below}
 

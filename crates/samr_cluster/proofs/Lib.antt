@@ -2,8 +2,8 @@ pub mod ListLaws
 pub mod NodeLaws
 pub mod JoinLaws
 pub mod OverlapLaws
-pub mod EdgeStage
-pub mod AllLaws
+pub mod EdgesStage
+pub mod OnAllLaws
 pub mod SomeRowLaws
 pub mod DecideLaws
 pub mod DecideStage
@@ -14,4 +14,4 @@ pub mod ReportLists
 pub mod ReportLaws
 pub mod ReportStage
 pub mod ToldLaws
-pub mod WholeLaws
+pub mod ClusterOnAllLaws

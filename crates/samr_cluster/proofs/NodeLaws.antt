@@ -7,10 +7,10 @@ use Rattle.samr_box.specs.Space.{finer}
 use Rattle.samr_box.specs.Lists.{Member}
 use Rattle.samr_box.proofs.Members.{Member-flat_map, Member-from_flat_map, Member-map, Member-from_map, Member-filter, Member-from_filter}
 use Rattle.samr_level.specs.Refs.{Owned}
+use Rattle.samr_level.specs.Levels.{own_boxes}
 use Rattle.samr_sign.specs.Laws.{depth}
 use Rattle.samr_rounds.specs.Clusters.{accepted, decided, clusters}
 use Rattle.samr_rounds.specs.Rounds.{opened, taken, accepted_of}
-use Rattle.samr_rounds.specs.Owners.{own_boxes}
 use Rattle.samr_rounds.specs.Laws.{IsNode}
 use Rattle.samr_rounds.proofs.Lists.{Member-range, Member-from_range}
 use Rattle.samr_rounds.proofs.Open.{opened_nodes, rounds_end, taken_clusters}
@@ -18,7 +18,7 @@ use Rattle.samr_rounds.proofs.OwnerLaws.{near_owner}
 use Rattle.samr_rounds.proofs.NearLaws.{near_down}
 use Rattle.samr_rounds.proofs.LevelLaws.{level_has}
 use Rattle.samr_cluster.specs.declared.accepted.Accepted.{Accepted}
-use Rattle.samr_cluster.specs.Clustering.{Clustering, IsClustering, near, near_to, accepted_in, owner, clusters_of, nodes}
+use Rattle.samr_cluster.specs.Cluster.{Clustering, IsClustering, near, near_to, accepted_in, owner, clusters_of, nodes}
 use Rattle.samr_cluster.specs.Accepting.{accepted_as, all_accepted, near_accepted, own_accepted}
 use Rattle.samr_cluster.proofs.ListLaws.{among, is_among, same_number, is_same_number, part_of_sum}
 

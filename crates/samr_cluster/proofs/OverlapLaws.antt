@@ -13,18 +13,17 @@ use Rattle.samr_box.proofs.Floors.{floor_self}
 use Rattle.samr_box.proofs.Totals.{same_corners}
 use Rattle.samr_box.proofs.Members.{Member-map, Member-from_map, Member-filter, Member-from_filter}
 use Rattle.samr_level.specs.Refs.{Owned, Link, turned}
-use Rattle.samr_level.specs.Levels.{own}
+use Rattle.samr_level.specs.Levels.{own, own_boxes}
 use Rattle.samr_level.specs.Overlaps.{Scale, scale, scale_in, near, shifts, true_overlaps, IsTrueOverlap}
 use Rattle.samr_level.proofs.RefLaws.{same_owned}
 use Rattle.samr_level.proofs.Overlapping.{turn, Member-overlaps, Member-from_overlaps}
 use Rattle.samr_rounds.specs.Near.{meets_at, meets_an_image, is_near}
-use Rattle.samr_rounds.specs.Owners.{own_boxes}
 use Rattle.samr_rounds.proofs.Lists.{any_member}
 use Rattle.samr_cluster.specs.declared.accepted.Accepted.{Accepted}
-use Rattle.samr_cluster.specs.Clustering.{Clustering, IsClustering, clusters_of}
-use Rattle.samr_cluster.specs.Clustering as whole
+use Rattle.samr_cluster.specs.Cluster.{Clustering, IsClustering, clusters_of}
+use Rattle.samr_cluster.specs.Cluster as whole
 use Rattle.samr_cluster.specs.Accepting.{near_accepted, cluster_of}
-use Rattle.samr_cluster.specs.EdgeRows.{cluster_scale, with_boxes_of}
+use Rattle.samr_cluster.specs.EdgesRow.{cluster_scale, with_boxes_of}
 use Rattle.samr_cluster.proofs.ListLaws.{same_number, is_same_number}
 use Rattle.samr_cluster.proofs.NodeLaws.{Member-near, Member-from_near, accepted_in_level, level_is_accepted}
 
@@ -76,11 +75,11 @@ near_by d width boxes node b s m n t =
 
 -- the boxes of a rank
 pub Member-own_boxes : (r : ℕ) (level : List Owned) (o : Owned) → Member o level → o.owner ≡ r → Member o.bx (own_boxes r level)
-unfolding own_boxes own
+unfolding own
 Member-own_boxes r level o m e = Member-map (λ b. b.bx) o (own r level) (Member-filter (λ b. nat_eq b.owner r) o level m (is_same_number o.owner r e))
 
 pub Member-from_own_boxes : (r : ℕ) (level : List Owned) (b : Corners) → Member b (own_boxes r level) → Member (let o : Owned = record { owner = r; bx = b } in o) level
-unfolding own_boxes own
+unfolding own
 Member-from_own_boxes r level b m =
     let s = Member-from_map (λ (b : Owned). b.bx) b (own r level) m in
     let f = Member-from_filter (λ (b : Owned). nat_eq b.owner r) s.0 level s.1 in

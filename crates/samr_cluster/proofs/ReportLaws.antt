@@ -21,14 +21,15 @@ use Rattle.samr_box.proofs.Members.{Member-map, Member-from_map, Member-filter, 
 use Rattle.samr_level.proofs.Searches.{filter-flat_map}
 use Rattle.samr_level.proofs.Sorting.{Member-in_order, Member-from_in_order, sorted-in_order}
 use Rattle.samr_level.proofs.RefLaws.{same_nat}
+use Rattle.samr_level.specs.Levels.{own_boxes}
 use Rattle.samr_sign.specs.Counts.{Sign, sign, total, tally}
-use Rattle.samr_sign.specs.Fields.{Field, tagged, tagged_in}
+use Rattle.samr_sign.specs.Fields.{Field, tagged, tagged_in, AreTags}
 use Rattle.samr_sign.proofs.Sums.{sum_planes}
 use Rattle.samr_sign.proofs.Tallies.{tally_most}
 use Rattle.samr_rounds.specs.declared.owner.RankTags.{RankTags}
 use Rattle.samr_rounds.specs.Clusters.{parts, decided}
 use Rattle.samr_rounds.specs.Rounds.{below, opened, directed}
-use Rattle.samr_rounds.specs.Owners.{own_boxes, own_tags, counts_of}
+use Rattle.samr_rounds.specs.Owners.{own_tags, counts_of}
 use Rattle.samr_rounds.specs.Ranks.{sum_of_signs}
 use Rattle.samr_rounds.specs.Laws.{IsNode}
 use Rattle.samr_rounds.proofs.Lists.{any_map, any_member, member_any, sum_map, sum_filter}
@@ -37,11 +38,11 @@ use Rattle.samr_rounds.proofs.NearLaws.{near_told, far_none}
 use Rattle.samr_peers.proofs.PeerRows.{not_same, is_not_same, Member-from_range}
 use Rattle.samr_cluster.specs.declared.nodes.Told.{Told}
 use Rattle.samr_cluster.specs.declared.nodes.Directed.{Directed}
-use Rattle.samr_cluster.specs.Clustering.{Clustering, IsClustering, near, near_to}
+use Rattle.samr_cluster.specs.Cluster.{Clustering, IsClustering, near, near_to}
 use Rattle.samr_cluster.specs.Rounds.{Round, open_of, told_of, near_of, directors, from_director, told_state, near_state, asked_of, directed_after}
 use Rattle.samr_cluster.specs.DecideParts.{other_directors}
-use Rattle.samr_cluster.specs.Reports.{was_told, signs_of, sign_for, signs_for, signed, tags_from}
-use Rattle.samr_cluster.specs.ReportParts.{AreTags, others_asked}
+use Rattle.samr_cluster.specs.ReportRow.{was_told, signs_of, sign_for, signs_for, signed, tags_from}
+use Rattle.samr_cluster.specs.ReportParts.{others_asked}
 use Rattle.samr_cluster.proofs.ListLaws.{same_number}
 use Rattle.samr_cluster.proofs.NodeLaws.{near_below}
 use Rattle.samr_cluster.proofs.SomeRowLaws.{flat_agree, flat_of_map, map_agree}

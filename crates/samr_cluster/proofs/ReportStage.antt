@@ -8,6 +8,7 @@ use Rattle.samr_box.specs.Corners.{Corners}
 use Rattle.samr_box.specs.Space.{Space, finer}
 use Rattle.samr_box.specs.Lists.{Member}
 use Rattle.samr_box.proofs.Members.{Member-map, All-from_members}
+use Rattle.samr_level.specs.Levels.{own_boxes}
 use Rattle.samr_stage.specs.declared.stage.Held.{Held}
 use Rattle.samr_stage.specs.Row.{told, heard, column}
 use Rattle.samr_peers.proofs.PeerRows.{along_picked}
@@ -15,17 +16,17 @@ use Rattle.samr_sign.specs.Counts.{Sign, sign, total}
 use Rattle.samr_sign.specs.Fields.{Field}
 use Rattle.samr_rounds.specs.declared.owner.RankTags.{RankTags}
 use Rattle.samr_rounds.specs.Near.{is_near}
-use Rattle.samr_rounds.specs.Owners.{own_boxes, own_tags, counts_of}
+use Rattle.samr_rounds.specs.Owners.{own_tags, counts_of}
 use Rattle.samr_rounds.specs.Ranks.{sum_of_signs}
 use Rattle.samr_cluster.specs.declared.nodes.Told.{Told}
 use Rattle.samr_cluster.specs.declared.nodes.Directed.{Directed}
 use Rattle.samr_cluster.specs.declared.nodes.Counted.{Counted}
 use Rattle.samr_cluster.specs.declared.nodes.Reported.{Reported}
-use Rattle.samr_cluster.specs.Clustering.{Clustering, near, near_to}
+use Rattle.samr_cluster.specs.Cluster.{Clustering, near, near_to}
 use Rattle.samr_cluster.specs.Rounds.{Round, open_of, near_state, told_state, directed_after, counted_as}
 use Rattle.samr_cluster.specs.SomeRows.{tells_some, some_row}
 use Rattle.samr_cluster.specs.DecideParts.{other_directors, reported_state}
-use Rattle.samr_cluster.specs.Reports.{was_told, signs_of, report_row, signs_for, count_below, with_own, signed, signs_on, tags_from, count_in}
+use Rattle.samr_cluster.specs.ReportRow.{was_told, signs_of, report_row, signs_for, count_below, with_own, signed, signs_on, tags_from, count_in}
 use Rattle.samr_cluster.specs.ReportParts.{HasTold, HasSigned, others_asked, CanCount}
 use Rattle.samr_cluster.proofs.SomeRowLaws.{map_agree, some_told, some_count, tells_from, tells_is}
 use Rattle.samr_cluster.proofs.DecideLaws.{map_of_map, other_directors_sorted}

@@ -11,7 +11,7 @@ use Rattle.samr_rounds.proofs.Open.{Member-below, Member-from_below}
 use Rattle.samr_rounds.proofs.DirectedRoots.{each_directed}
 use Rattle.samr_peers.proofs.PeerRows.{is_not_same, Member-range, Member-from_range}
 use Rattle.samr_cluster.specs.declared.accepted.Accepted.{Accepted}
-use Rattle.samr_cluster.specs.Clustering.{Clustering, IsClustering, near, accepted_in}
+use Rattle.samr_cluster.specs.Cluster.{Clustering, IsClustering, near, accepted_in}
 use Rattle.samr_cluster.specs.Accepting.{accepted_as, near_accepted}
 use Rattle.samr_cluster.specs.Rounds.{Round, open_of, near_of, directors, accepted_state}
 use Rattle.samr_cluster.proofs.NodeLaws.{open_node, node_open, near_below, near_member, Member-accepted, Member-from_accepted, Member-near, Member-from_near}

@@ -12,7 +12,7 @@ use Rattle.samr_rounds.specs.Rounds.{told, directed}
 use Rattle.samr_rounds.specs.Laws.{AreNodes}
 use Rattle.samr_rounds.proofs.Open.{below_nodes}
 use Rattle.samr_cluster.specs.declared.nodes.Told.{Told}
-use Rattle.samr_cluster.specs.Clustering.{IsClustering, near}
+use Rattle.samr_cluster.specs.Cluster.{IsClustering, near}
 use Rattle.samr_cluster.specs.Rounds.{Round, told_of, directors, from_director, told_state}
 use Rattle.samr_cluster.specs.ReportParts.{HasTold}
 use Rattle.samr_cluster.proofs.DecideLaws.{directed_nodes, directors_below}

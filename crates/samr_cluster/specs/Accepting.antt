@@ -5,7 +5,7 @@ use Rattle.samr_box.specs.Vector.{alike}
 use Rattle.samr_box.specs.Corners.{Corners}
 use Rattle.samr_level.specs.Refs.{Owned, Link, link}
 use Rattle.samr_cluster.specs.declared.accepted.Accepted.{Accepted}
-use Rattle.samr_cluster.specs.Clustering.{Clustering, near_to, accepted_in, owner, nodes}
+use Rattle.samr_cluster.specs.Cluster.{Clustering, near_to, accepted_in, owner, nodes}
 
 -- a box accepted of a node
 abbrev pub accepted_as : Clustering → Corners → Corners → Accepted

@@ -8,9 +8,9 @@ use Rattle.samr_cluster.specs.declared.nodes.Told.{Told}
 use Rattle.samr_cluster.specs.declared.nodes.Reported.{Reported}
 use Rattle.samr_cluster.specs.declared.nodes.Decided.{Decided}
 use Rattle.samr_cluster.specs.declared.verdict.Judged.{Judged}
-use Rattle.samr_cluster.specs.Clustering.{IsClustering}
+use Rattle.samr_cluster.specs.Cluster.{IsClustering}
 use Rattle.samr_cluster.specs.Rounds.{Round, open_of, near_state, told_state, directed_after, counted_as, accepted_state, next}
-use Rattle.samr_cluster.specs.Verdicts.{judged_as}
+use Rattle.samr_cluster.specs.DecideRow.{judged_as}
 
 -- what a rank has once all have reported: the nodes that it is near, and the counts of those that it directs
 abbrev pub reported_state : Round → ℕ → Reported

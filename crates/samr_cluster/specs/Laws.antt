@@ -3,7 +3,7 @@ use Rattle.std.specs.Prelude.{◌≡◌, ◌↔◌, ℕ, ◌<◌}
 use Rattle.samr_box.specs.Corners.{Corners}
 use Rattle.samr_box.specs.Lists.{Member}
 use Rattle.samr_cluster.specs.declared.accepted.Accepted.{Accepted}
-use Rattle.samr_cluster.specs.Clustering.{Clustering, IsClustering}
+use Rattle.samr_cluster.specs.Cluster.{Clustering, IsClustering}
 use Rattle.samr_cluster.specs.Accepting.{near_accepted}
 use Rattle.samr_cluster.specs.declared.nodes.Directed.{Directed}
 use Rattle.samr_cluster.specs.Rounds.{told_of, directed_after, accepted_state}

@@ -1,27 +1,21 @@
 -- What a rank has in a Report round.
-use Rattle.std.specs.Prelude.{◌≡◌, ℕ, ◌<◌, ◌^◌, Bool, ◌&&◌, not, nat_eq, List, length, map, filter, Some, slice_get, sum_by}
+use Rattle.std.specs.Prelude.{◌≡◌, ℕ, ◌<◌, ◌^◌, Bool, not, nat_eq, List, length, filter, Some, slice_get, sum_by}
 use Rattle.std.specs.List.{flat_map}
 use Rattle.std.specs.Ordering.{nat_cmp}
 use Rattle.samr_box.specs.declared.vector.IVec.{IVec}
-use Rattle.samr_box.specs.Corners.{Corners, holds, cells_of}
+use Rattle.samr_box.specs.Corners.{Corners, cells_of}
 use Rattle.samr_box.specs.Space.{Space}
-use Rattle.samr_box.specs.Lists.{Member}
 use Rattle.samr_stage.specs.declared.stage.Held.{Held}
 use Rattle.samr_level.specs.RefOrders.{in_order}
+use Rattle.samr_level.specs.Levels.{own_boxes}
 use Rattle.samr_sign.specs.Counts.{Sign, total}
-use Rattle.samr_sign.specs.Fields.{Field, tagged}
-use Rattle.samr_rounds.specs.Owners.{own_boxes}
+use Rattle.samr_sign.specs.Fields.{Field, AreTags}
 use Rattle.samr_cluster.specs.declared.nodes.Told.{Told}
 use Rattle.samr_cluster.specs.declared.nodes.Directed.{Directed}
 use Rattle.samr_cluster.specs.declared.nodes.OpenNodes.{OpenNodes}
-use Rattle.samr_cluster.specs.Clustering.{IsClustering}
+use Rattle.samr_cluster.specs.Cluster.{IsClustering}
 use Rattle.samr_cluster.specs.Rounds.{Round, near_state, told_state, directed_after}
-use Rattle.samr_cluster.specs.Reports.{signs_of, signs_on}
-
--- fields on these boxes, in their order, that have these tags
-pub record AreTags (boxes : List Corners) (tags : IVec → Bool) (fields : List Field) : Type 0 where
-  pub same_boxes : map (λ f. f.bx) fields ≡ boxes
-  pub cells : (f : Field) (x : IVec) → Member f fields → tagged f x ≡ (holds f.bx x && tags x)
+use Rattle.samr_cluster.specs.ReportRow.{signs_of, signs_on}
 
 -- its fields, the nodes that it was told, and those that it directs with the ranks that were told these
 pub record HasTold (rank : ℕ) (frame : Space) (fields : List Field) (told : List Told) (directed : List Directed) (width ratio : IVec) (x : Round) (r : ℕ) : Type 0 where

@@ -10,7 +10,7 @@ use Rattle.samr_cluster.specs.declared.accepted.Accepted.{Accepted}
 use Rattle.samr_cluster.specs.declared.nodes.Told.{Told}
 use Rattle.samr_cluster.specs.declared.nodes.Directed.{Directed}
 use Rattle.samr_cluster.specs.declared.nodes.Counted.{Counted}
-use Rattle.samr_cluster.specs.Clustering.{Clustering, near, near_to, accepted_in}
+use Rattle.samr_cluster.specs.Cluster.{Clustering, near, near_to, accepted_in}
 use Rattle.samr_cluster.specs.Accepting.{accepted_as}
 
 pub record Round : Type 0 where

@@ -6,13 +6,13 @@ use Rattle.std.proofs.lemmas.Bool.{and_parts, ltb-true}
 use Rattle.std.proofs.lemmas.Bool.Decides.{nat_tests}
 use Rattle.samr_level.specs.Overlaps.{of_rank}
 use Rattle.samr_peers.specs.PeerLaws.{peer_between}
-use Rattle.samr_cluster.specs.Clustering.{Clustering, near}
+use Rattle.samr_cluster.specs.Cluster.{Clustering, near}
 use Rattle.samr_cluster.specs.Rounds.{Round, open_of, near_of}
 use Rattle.samr_cluster.specs.SomeRows.{some_row}
-use Rattle.samr_cluster.specs.Verdicts.{verdict, decide_row}
-use Rattle.samr_cluster.specs.Reports.{was_told, signs_of, report_row}
+use Rattle.samr_cluster.specs.DecideRow.{verdict, decide_row}
+use Rattle.samr_cluster.specs.ReportRow.{was_told, signs_of, report_row}
 use Rattle.samr_cluster.specs.Accepting.{to_owners}
-use Rattle.samr_cluster.specs.EdgeRows.{with_boxes_of, edges_row}
+use Rattle.samr_cluster.specs.EdgesRow.{with_boxes_of, edges_row}
 
 pub edges_between : (w : Clustering) (from to : ℕ) → IsTrue (is_some (edges_row w from to)) → (from < w.ranks) × (to < w.ranks) × (from ≢ to)
 unfolding edges_row

@@ -1,3 +1,5 @@
+//! Accepted boxes: the clusters, with their owners and the ranks near their nodes.
+
 ghost use Rattle.std.specs.Prelude.{◌≡◌, IfOk, map};
 ghost use Rattle.samr_cluster.specs.Accepting.{cluster_of};
 

@@ -1,3 +1,5 @@
+//! Lists of edges: those of a rank, turned, and in edge order.
+
 ghost use Rattle.std.specs.Prelude.{◌≡◌, ◌++◌, IfOk, OnOk, map};
 ghost use Rattle.std.specs.List.{flat_map};
 ghost use Rattle.samr_level.specs.Refs.{turned};

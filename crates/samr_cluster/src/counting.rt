@@ -1,3 +1,5 @@
+//! The sums of what the ranks report of each directed node.
+
 ghost use Rattle.std.specs.Prelude.{◌≡◌, ◌+◌, ◌<◌, ◌≤◌, ◌^◌, ◌++◌, ◌∷◌, [], false, IfOk, OnOk, length, map, sum_by};
 ghost use Rattle.std.specs.List.{All, find, fold};
 ghost use Rattle.std.specs.Option.{option_copied};
@@ -5,7 +7,7 @@ ghost use Rattle.std.specs.Ordering.{is_eq};
 ghost use Rattle.samr_box.specs.Corners.{cells_of};
 ghost use Rattle.samr_box.specs.Orders.{corner_cmp};
 ghost use Rattle.samr_sign.specs.Counts.{sign, sign_sum, total};
-ghost use Rattle.samr_cluster.specs.Reports.{count_below, with_own, signed, tags_from, count_in};
+ghost use Rattle.samr_cluster.specs.ReportRow.{count_below, with_own, signed, tags_from, count_in};
 ghost use Rattle.samr_cluster.specs.ReportParts.{CanCount};
 
 use crate::nodes::{Counted, Directed};
@@ -24,7 +26,7 @@ fn count_below(rank: u16, held: &[Held<Listed<Signature>>]) -> usize
 }
 
 /// The reports of all ranks by sender: those of the letters, and the rank's own at its place.
-#[tactic(auto, unfolding(crate::specs::Reports::with_own))]
+#[tactic(auto, unfolding(crate::specs::ReportRow::with_own))]
 pub fn with_own(
     rank: u16,
     own: Listed<Signature>,
@@ -74,7 +76,7 @@ fn add_one(
 }
 
 /// Adds what a rank reports of a node, if it does.
-#[tactic(auto, unfolding(crate::specs::Reports::signed))]
+#[tactic(auto, unfolding(crate::specs::ReportRow::signed))]
 fn add_report(
     node: IBox,
     sender: u16,
@@ -111,7 +113,7 @@ fn no_tags(alloc: Global, node: IBox) -> Result<Signature, NoMemory>
 }
 
 /// What the reports have of a node.
-#[tactic(auto, unfolding(crate::specs::Reports::count_in))]
+#[tactic(auto, unfolding(crate::specs::ReportRow::count_in))]
 fn count_in(
     alloc: Global,
     node: IBox,

@@ -1,14 +1,16 @@
+//! The stage in which directors decide on their open nodes.
+
 ghost use Rattle.std.specs.Prelude.{◌≡◌, ℕ, IfOk};
 ghost use Rattle.samr_stage.specs.Row.{heard, column};
 ghost use Rattle.samr_peers.specs.PeerLaws.{heavy};
 ghost use Rattle.samr_cluster.specs.Rounds.{Round};
-ghost use Rattle.samr_cluster.specs.Verdicts.{decide_row};
+ghost use Rattle.samr_cluster.specs.DecideRow.{decide_row};
 ghost use Rattle.samr_cluster.specs.DecideParts.{HasReported, HasJudged, decided_state};
 ghost use Rattle.samr_cluster.specs.StageLaws.{decide_between};
 
+use crate::addressees::{other_directors, others_near};
+use crate::next_round::{accepted_next, directed_next, told_next};
 use crate::nodes::{Decided, Reported};
-use crate::peers::{other_directors, others_near};
-use crate::telling::{accepted_next, directed_next, told_next};
 use crate::verdict::{Judged, Verdict, judge_all, verdicts_for};
 use samr_box::{Domain, Listed};
 use samr_sign::CutRule;

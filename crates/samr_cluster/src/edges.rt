@@ -1,18 +1,20 @@
+//! The stage that finds the overlaps of a level and its clusters.
+
 ghost use Rattle.std.specs.Prelude.{◌≡◌, ℕ, IfOk, OnOk, map};
 ghost use Rattle.samr_box.specs.Vector.{InRange};
 ghost use Rattle.samr_box.specs.Space.{IsSpace, finer};
 ghost use Rattle.samr_level.specs.Overlaps.{scale_in, true_overlaps};
 ghost use Rattle.samr_stage.specs.Row.{heard, column};
 ghost use Rattle.samr_peers.specs.PeerLaws.{peer_between, heavy};
-ghost use Rattle.samr_cluster.specs.Clustering.{Clustering};
+ghost use Rattle.samr_cluster.specs.Cluster.{Clustering};
 ghost use Rattle.samr_cluster.specs.Accepting.{cluster_of, to_owners};
-ghost use Rattle.samr_cluster.specs.EdgeRows.{edges_row, cluster_pair};
-ghost use Rattle.samr_cluster.specs.EdgeParts.{HasAccepted, HasCompared};
+ghost use Rattle.samr_cluster.specs.EdgesRow.{edges_row, cluster_pair};
+ghost use Rattle.samr_cluster.specs.EdgesParts.{HasAccepted, HasCompared};
 ghost use Rattle.samr_cluster.specs.StageLaws.{edges_between};
 
 use crate::accepted::{Accepted, clusters_of, owned_by};
+use crate::addressees::{near_of, owners_of};
 use crate::connectors::{gathered, settled_on, settled_turned};
-use crate::peers::{near_of, owners_of};
 use samr_box::{Domain, IBox, IVec, Listed, Ratio};
 use samr_level::{Connector, Edge, Pair, true_overlaps_of};
 use samr_stage::{Held, Stage};

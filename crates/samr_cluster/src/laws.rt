@@ -1,3 +1,5 @@
+//! The laws of the rounds: who is told of what.
+
 ghost use Rattle.samr_cluster.specs.Laws.{RoundsTellTheAccepted, TheAskedWereTold};
 
 /// The law that a rank is told in some round of each accepted box whose node it is near, and of no

@@ -6,31 +6,26 @@
 #![tactic(auto)]
 
 mod accepted;
-mod all_ranks;
+mod addressees;
+mod cluster_on_all;
 mod connectors;
 mod counting;
 mod decide;
 mod edges;
 mod laws;
+mod next_round;
 mod nodes;
-mod peers;
+mod on_all;
 mod report;
 mod signing;
-mod telling;
 mod verdict;
-mod whole;
 
 pub use accepted::Accepted;
-pub use all_ranks::{decide_all, edges_all, report_all};
+pub use cluster_on_all::cluster_all;
 pub use decide::Decide;
 pub use edges::Edges;
 pub use laws::{rounds_tell_the_accepted, the_asked_were_told};
 pub use nodes::{Counted, Decided, Directed, OpenNodes, Reported, Told};
+pub use on_all::{decide_all, edges_all, report_all};
 pub use report::Report;
 pub use verdict::Verdict;
-pub use whole::cluster_all;
-
-#[cfg(test)]
-mod end_to_end_tests;
-#[cfg(test)]
-mod tests;

@@ -1,3 +1,5 @@
+//! Open nodes, as they are told, directed, counted and decided.
+
 use crate::accepted::Accepted;
 use samr_box::{IBox, Listed};
 use samr_rounds::RankTags;

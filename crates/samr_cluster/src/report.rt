@@ -1,3 +1,5 @@
+//! The stage in which ranks report their tags in open nodes to the directors.
+
 ghost use Rattle.std.specs.Prelude.{◌≡◌, ◌<◌, ◌^◌, ℕ, IfOk};
 ghost use Rattle.std.specs.List.{All};
 ghost use Rattle.samr_box.specs.Vector.{InRange};
@@ -8,13 +10,13 @@ ghost use Rattle.samr_peers.specs.PeerLaws.{heavy};
 ghost use Rattle.samr_sign.specs.Fields.{AreApart};
 ghost use Rattle.samr_cluster.specs.Rounds.{Round};
 ghost use Rattle.samr_cluster.specs.DecideParts.{reported_state};
-ghost use Rattle.samr_cluster.specs.Reports.{report_row};
+ghost use Rattle.samr_cluster.specs.ReportRow.{report_row};
 ghost use Rattle.samr_cluster.specs.ReportParts.{HasTold, HasSigned};
 ghost use Rattle.samr_cluster.specs.StageLaws.{report_between};
 
+use crate::addressees::{other_directors, others_asked};
 use crate::counting::{count_all, with_own};
 use crate::nodes::{Directed, Reported, Told};
-use crate::peers::{other_directors, others_asked};
 use crate::signing::{boxes_of, letters_to, near_nodes, signatures_for};
 use samr_box::{Domain, IVec, Listed, Ratio};
 use samr_sign::{Signature, TagField};

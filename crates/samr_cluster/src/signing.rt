@@ -1,10 +1,12 @@
+//! The signatures of near nodes that a rank tells their directors.
+
 ghost use Rattle.std.specs.Prelude.{◌≡◌, ◌<◌, ◌^◌, ◌++◌, IfOk, OnOk, map, filter};
 ghost use Rattle.std.specs.List.{All};
 ghost use Rattle.samr_box.specs.Vector.{InRange};
 ghost use Rattle.samr_box.specs.Corners.{cells_of};
 ghost use Rattle.samr_sign.specs.Fields.{AreApart};
 ghost use Rattle.samr_rounds.specs.Near.{is_near};
-ghost use Rattle.samr_cluster.specs.Reports.{sign_for, signs_for};
+ghost use Rattle.samr_cluster.specs.ReportRow.{sign_for, signs_for};
 
 use crate::nodes::Told;
 use samr_box::{Domain, IBox, IVec, Listed};
@@ -62,7 +64,7 @@ fn push_signature(
 }
 
 /// The signatures of the nodes of a director.
-#[tactic(auto, unfolding(crate::specs::Reports::signs_for))]
+#[tactic(auto, unfolding(crate::specs::ReportRow::signs_for))]
 pub fn signatures_for(
     alloc: Global,
     director: u16,

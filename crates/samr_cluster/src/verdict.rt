@@ -1,6 +1,8 @@
+//! The verdicts of a director on counted nodes.
+
 ghost use Rattle.std.specs.Prelude.{◌≡◌, ◌++◌, IfOk, OnOk, map, nat_eq};
 ghost use Rattle.std.specs.List.{list_any};
-ghost use Rattle.samr_cluster.specs.Verdicts.{judge, told_to, verdicts_for};
+ghost use Rattle.samr_cluster.specs.DecideRow.{judge, told_to, verdicts_for};
 
 use crate::accepted::Accepted;
 use crate::nodes::Counted;
@@ -104,7 +106,7 @@ fn push_for(
 }
 
 /// The verdicts on the nodes that a rank is near.
-#[tactic(auto, unfolding(crate::specs::Verdicts::verdicts_for))]
+#[tactic(auto, unfolding(crate::specs::DecideRow::verdicts_for))]
 pub fn verdicts_for(
     alloc: Global,
     rank: u16,

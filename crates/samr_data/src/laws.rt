@@ -1,3 +1,5 @@
+//! The laws of patches, each as the contract of a function without a body to speak of.
+
 ghost use Rattle.samr_data.specs.Laws.{HasItsValues, CopiesRegion, KeepsOthers, IsItsValues};
 
 /// A patch made from a function has its value at each cell.

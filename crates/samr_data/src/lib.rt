@@ -16,6 +16,3 @@ pub use laws::{copies_region, has_its_values, is_its_values, keeps_others};
 pub use parcel::Parcel;
 pub use patch::Patch;
 pub use places::{cell_at, place};
-
-#[cfg(test)]
-mod tests;

@@ -1,3 +1,5 @@
+//! The values that one rank sends to another.
+
 ghost use Rattle.std.specs.Prelude.{◌≡◌, IfOk, IsTrue};
 ghost use Rattle.samr_box.specs.Corners.{holds_box};
 ghost use Rattle.samr_data.specs.Grids.{over, packed};

@@ -1,3 +1,5 @@
+//! Patches: values of the cells of a box, read, written, copied and packed.
+
 ghost use Rattle.std.specs.Prelude.{◌≡◌, ℕ, ◌<◌, ◌^◌, pos, length, IsTrue, IfOk, IfSome};
 ghost use Rattle.samr_box.specs.declared.vector.IVec.{IVec as Cell};
 ghost use Rattle.samr_box.specs.Vector.{alike, AtMost};

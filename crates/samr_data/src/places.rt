@@ -1,3 +1,5 @@
+//! Where a cell stands in the row order of a box.
+
 ghost use Rattle.std.specs.Prelude.{◌≡◌, ◌<◌, ◌^◌, pos};
 ghost use Rattle.samr_box.specs.declared.vector.Axis.TheVariants.{I, J, K};
 ghost use Rattle.samr_box.specs.Vector.{plus};

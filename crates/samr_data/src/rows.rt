@@ -1,3 +1,5 @@
+//! Values copied from one box to another, row by row.
+
 ghost use Rattle.std.specs.Prelude.{◌≡◌, ◌+◌, ◌≤◌, length};
 ghost use Rattle.samr_box.specs.Corners.{holds};
 ghost use Rattle.samr_data.specs.Places.{IsRow};

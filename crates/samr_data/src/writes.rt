@@ -1,3 +1,5 @@
+//! Values of a function written into the cells of a region.
+
 ghost use Rattle.std.specs.Prelude.{◌≡◌, ℕ, ◌<◌, ◌^◌, length, IsTrue};
 ghost use Rattle.samr_box.specs.declared.vector.IVec.{IVec as Cell};
 ghost use Rattle.samr_box.specs.Corners.{Holds, holds, holds_box, cells_of};

@@ -1,4 +1,5 @@
 //! The driver of one rank.
+
 ghost use Rattle.std.specs.Prelude.{◌≡◌, ◌<◌, ◌≤◌, ℕ, true, false, IfOk, OnOk, IfErr};
 ghost use Rattle.samr_drive.specs.Driven.{Fits, IsSame, HasFinished, PostsAll, TakesAll};
 

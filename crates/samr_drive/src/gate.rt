@@ -1,3 +1,5 @@
+//! What a driver passes before its rank's first turn.
+
 /// What a driver passes once, before the first turn of its rank. It promises nothing.
 pub trait Gate {
     /// The driver of this rank is about to begin.

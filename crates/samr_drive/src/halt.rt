@@ -1,4 +1,5 @@
 //! How one driver tells the others to end.
+
 ghost use Rattle.std.specs.Prelude.{◌≡◌, ◌<◌, ◌≤◌, ℕ, Bool, true, false, IsTrue};
 
 use std::sync::atomic::{AtomicBool, Ordering};

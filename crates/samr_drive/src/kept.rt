@@ -1,4 +1,5 @@
 //! The ranks that the caller drives, together, one turn of each after the other.
+
 ghost use Rattle.std.specs.Prelude.{◌≡◌, ◌<◌, ◌^◌, ℕ, List, length, All, IsTrue, true, false, None, Bool};
 ghost use Rattle.samr_drive.specs.Driven.{IsSteady, Drove, DrivenTo};
 ghost use Rattle.samr_drive.specs.Slots.{Trio};

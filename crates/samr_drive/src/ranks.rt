@@ -1,4 +1,5 @@
 //! The threads of all ranks of a run.
+
 ghost use Rattle.std.specs.Prelude.{◌≡◌, ◌<◌, ◌≤◌, ◌^◌, [], ℕ, List, length, All, None};
 ghost use Rattle.std.specs.Vec.{vec_capacity};
 ghost use Rattle.samr_drive.specs.Driven.{IsSteady};

@@ -1,4 +1,5 @@
 //! A whole run on a fabric.
+
 ghost use Rattle.std.specs.Prelude.{◌≡◌, ◌<◌, ◌≤◌, ◌^◌, ◌⊎◌, [], ℕ, List, length, map, All, true, false, None, Ok, IfOk, OnOk};
 ghost use denote.Param.Send.{IsSend, IsSync};
 ghost use Rattle.std.specs.List.{AllZip};

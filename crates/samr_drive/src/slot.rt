@@ -1,4 +1,5 @@
 //! What stands for a rank while it runs.
+
 ghost use Rattle.std.specs.Prelude.{◌≡◌, None, IsTrue, true, false};
 ghost use Rattle.samr_drive.specs.Slots.{KeptBy};
 

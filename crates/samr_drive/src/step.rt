@@ -1,4 +1,5 @@
 //! One small step of the driver of a rank.
+
 ghost use Rattle.std.specs.Prelude.{◌≡◌, [], ◌∷◌, ◌++◌, ℕ, true, map, All, Option, IfOk, OnOk};
 ghost use Rattle.std.specs.Option.{option_to_list};
 ghost use Rattle.samr_drive.specs.Driven.{IsSteady, IsSame, CanPost, Drove};

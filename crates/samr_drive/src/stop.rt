@@ -1,3 +1,5 @@
+//! Why a driver ended early.
+
 use thiserror::Error;
 
 /// Why a driver ended before its rank had finished.

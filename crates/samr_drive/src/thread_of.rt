@@ -1,4 +1,5 @@
 //! How the thread of a rank is started, and what it does.
+
 ghost use Rattle.std.specs.Prelude.{◌≡◌, None};
 ghost use Rattle.samr_drive.specs.Driven.{IsSteady};
 ghost use Rattle.samr_drive.specs.Slots.{KeptBy};

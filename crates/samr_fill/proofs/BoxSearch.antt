@@ -24,7 +24,7 @@ use Rattle.samr_level.specs.Levels.{own}
 use Rattle.samr_data.specs.Grids.{Grid}
 use Rattle.samr_data.specs.declared.parcel.Parcel.{Parcel}
 use Rattle.samr_sched.specs.declared.plan.Request.{Request}
-use Rattle.samr_fill.specs.Filling.{Filling, IsFilling}
+use Rattle.samr_fill.specs.Fill.{Filling, IsFilling}
 use Rattle.samr_fill.specs.FillParts.{HasValues}
 use Rattle.samr_fill.specs.Sending.{then_some, is_box, AreByCorner, AllByCorner, answer_in, answer_from}
 use Rattle.samr_fill.proofs.Numbered.{some_same}

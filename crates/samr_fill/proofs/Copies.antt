@@ -12,7 +12,7 @@ use Rattle.samr_data.specs.Grids.{Grid, IsGrid, over, value_at, grid_of, written
 use Rattle.samr_data.proofs.Lists.{listed_same}
 use Rattle.samr_data.proofs.PlaceLaws.{part_Holds}
 use Rattle.samr_data.proofs.Patches.{copies_region, holds_still}
-use Rattle.samr_fill.specs.Tasks.{IsCopyOf}
+use Rattle.samr_fill.specs.FilledSoFar.{IsCopyOf}
 use Rattle.samr_fill.proofs.Corners.{inside_grown}
 use Rattle.samr_fill.proofs.Turning.{minus_nothing}
 

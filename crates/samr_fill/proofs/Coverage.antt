@@ -34,17 +34,17 @@ use Rattle.samr_nest.proofs.Moved.{AtMost-plus}
 use Rattle.samr_nest.proofs.Subtracting.{met_some}
 use Rattle.samr_data.specs.Places.{moved_back}
 use Rattle.samr_ops.specs.declared.rules.Rules.{Rules}
-use Rattle.samr_sched.specs.Scheduling.{Scheduling, IsScheduling, IsGhost, domain_of, coarse_domain, frame_of, coarse_frame, selves_of, downs_of}
+use Rattle.samr_sched.specs.Ask.{Scheduling, IsScheduling, IsGhost, domain_of, coarse_domain, frame_of, coarse_frame, selves_of, downs_of}
 use Rattle.samr_sched.specs.Plans.{copies, rest, request, requests, plan_of}
 use Rattle.samr_data.specs.declared.parcel.Parcel.{Parcel}
-use Rattle.samr_fill.specs.Filling.{Filling, IsFilling, has}
-use Rattle.samr_fill.specs.Parcels.{copied_along, asked_region, answered, parcels}
+use Rattle.samr_fill.specs.Fill.{Filling, IsFilling, has}
+use Rattle.samr_fill.specs.FillRow.{copied_along, asked_region, answered, parcels}
 use Rattle.samr_fill.specs.Writing.{is_for, takes, any_takes}
 use Rattle.samr_fill.proofs.Fixing.{by_test}
 use Rattle.samr_fill.proofs.Pieces.{moved_has}
 use Rattle.samr_fill.proofs.Scales.{self_near, down_near, near_coarse}
 use Rattle.samr_fill.proofs.Insides.{any_member, member_any, near_frame, rest_means}
-use Rattle.samr_fill.proofs.ParcelLaws.{in_requests, in_copied, in_answers}
+use Rattle.samr_fill.proofs.FillRowLaws.{in_requests, in_copied, in_answers}
 use Rattle.samr_fill.proofs.Turning.{step_back, opposite_step, there_and_back, near_moved, image_moved, grown_moved}
 use Rattle.samr_fill.proofs.Numbered.{numbered_has, get_member}
 use Rattle.samr_fill.proofs.Truths.{copy_parcel, width_at, ghost_at}

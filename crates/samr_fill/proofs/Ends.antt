@@ -22,9 +22,9 @@ use Rattle.samr_data.proofs.Lists.{listed_same}
 use Rattle.samr_ops.specs.declared.rules.Rules.{Rules}
 use Rattle.samr_ops.specs.Walks.{walked, IsNear}
 use Rattle.samr_ops.proofs.WalkLaws.{grown_cells_are_near, walks_end_inside}
-use Rattle.samr_sched.specs.Scheduling.{IsGhost, domain_of, frame_of}
+use Rattle.samr_sched.specs.Ask.{IsGhost, domain_of, frame_of}
 use Rattle.samr_sched.specs.Plans.{plan_of}
-use Rattle.samr_fill.specs.Filling.{Filling, IsFilling, walked_value, value_of}
+use Rattle.samr_fill.specs.Fill.{Filling, IsFilling, walked_value, value_of}
 use Rattle.samr_fill.specs.Ending.{walk_in, ended_at, CanEnd}
 use Rattle.samr_fill.proofs.Fixing.{by_test}
 use Rattle.samr_fill.proofs.Insides.{home, inside_means, value_inside, level_value}

@@ -16,8 +16,8 @@ use Rattle.samr_sched.specs.declared.plan.BoxPlan.{BoxPlan}
 use Rattle.samr_sched.specs.declared.plan.FieldPlan.{FieldPlan}
 use Rattle.samr_sched.specs.Plans.{field_plan, box_plan, box_plans}
 use Rattle.samr_data.specs.declared.parcel.Parcel.{Parcel}
-use Rattle.samr_fill.specs.Filling.{Filling}
-use Rattle.samr_fill.specs.Tasks.{HasParcels, IsPatchOf, IsBoxOf, IsField, AreFields}
+use Rattle.samr_fill.specs.Fill.{Filling}
+use Rattle.samr_fill.specs.FilledSoFar.{HasParcels, IsPatchOf, IsBoxOf, IsField, AreFields}
 use Rattle.samr_fill.proofs.Numbered.{slice_get_map, get_member, some_same}
 use Rattle.samr_fill.proofs.Truths.{width_at}
 

@@ -31,9 +31,9 @@ use Rattle.samr_ops.specs.declared.rules.Rules.{Rules}
 use Rattle.samr_ops.specs.Rules.{refined_value}
 use Rattle.samr_ops.specs.Walks.{walked}
 use Rattle.samr_ops.proofs.WalkLaws.{walks_stay_inside}
-use Rattle.samr_sched.specs.Scheduling.{Scheduling, IsScheduling, IsGhost, domain_of, frame_of, coarse_frame}
+use Rattle.samr_sched.specs.Ask.{Scheduling, IsScheduling, IsGhost, domain_of, frame_of, coarse_frame}
 use Rattle.samr_sched.specs.Plans.{rest}
-use Rattle.samr_fill.specs.Filling.{Filling, IsFilling, has, child, inner_value, walked_value, value_of}
+use Rattle.samr_fill.specs.Fill.{Filling, IsFilling, has, child, inner_value, walked_value, value_of}
 
 -- a member that passes a test
 pub any_member : {X : Type 0} (p : X → Bool) (x : X) (xs : List X) → Member x xs → p x ≡ true → list_any p xs ≡ true

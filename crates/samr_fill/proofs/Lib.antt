@@ -6,7 +6,7 @@ pub mod Numbers
 pub mod Scales
 pub mod Insides
 pub mod Pieces
-pub mod ParcelLaws
+pub mod FillRowLaws
 pub mod Turning
 pub mod Numbered
 pub mod Truths
@@ -18,8 +18,8 @@ pub mod PatchTasks
 pub mod FieldTasks
 pub mod SendingLaws
 pub mod BoxSearch
-pub mod Stages
-pub mod RowProofs
+pub mod FillStage
+pub mod WorkedProofs
 pub mod ValueLaws
-pub mod AllRanks
+pub mod FillOnAllLaws
 pub mod ValuesFit

@@ -10,7 +10,7 @@ use Rattle.samr_box.proofs.Vectors.{AtMost-trans}
 use Rattle.samr_box.proofs.Floors.{floor_low, floor_high, last-from_floor, mul-from_floor}
 use Rattle.samr_box.proofs.Products.{mul_le, mul_comm}
 use Rattle.samr_ops.specs.Rules.{IsOffset}
-use Rattle.samr_fill.specs.Filling.{child}
+use Rattle.samr_fill.specs.Fill.{child}
 use Rattle.samr_fill.proofs.Corners.{IsWide}
 
 -- coarse cells

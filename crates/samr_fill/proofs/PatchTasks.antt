@@ -18,14 +18,14 @@ use Rattle.samr_data.specs.Grids.{Grid, over, value_at, grid_of, written}
 use Rattle.samr_ops.specs.declared.rules.Rules.{Rules}
 use Rattle.samr_sched.specs.declared.plan.Plan.{Plan}
 use Rattle.samr_sched.specs.declared.plan.FieldPlan.{FieldPlan}
-use Rattle.samr_sched.specs.Scheduling.{domain_of}
+use Rattle.samr_sched.specs.Ask.{domain_of}
 use Rattle.samr_sched.specs.Plans.{rest, plan_of}
 use Rattle.samr_data.specs.declared.parcel.Parcel.{Parcel}
-use Rattle.samr_fill.specs.Filling.{Filling, value_of}
-use Rattle.samr_fill.specs.Parcels.{parcels}
+use Rattle.samr_fill.specs.Fill.{Filling, value_of}
+use Rattle.samr_fill.specs.FillRow.{parcels}
 use Rattle.samr_fill.specs.Writing.{is_for, any_takes, IsFit, AreOf, Fixes}
 use Rattle.samr_fill.specs.Ending.{ended_at, CanEnd}
-use Rattle.samr_fill.specs.Tasks.{HasParcels, IsPatch, IsPatchOf, IsCopyOf}
+use Rattle.samr_fill.specs.FilledSoFar.{HasParcels, IsPatch, IsPatchOf, IsCopyOf}
 use Rattle.samr_fill.proofs.Fixing.{by_test, fixes_over}
 use Rattle.samr_fill.proofs.Truths.{own_box, ghost_at, parcel_fit, parcel_true}
 use Rattle.samr_fill.proofs.Coverage.{covered}

@@ -22,7 +22,7 @@ use Rattle.samr_ops.specs.declared.rules.Rules.{Rules}
 use Rattle.samr_ops.specs.Rules.{refined_value}
 use Rattle.samr_sched.specs.declared.plan.Plan.{Plan}
 use Rattle.samr_data.specs.declared.parcel.Parcel.{Parcel}
-use Rattle.samr_fill.specs.Filling.{child}
+use Rattle.samr_fill.specs.Fill.{child}
 use Rattle.samr_fill.specs.Writing.{takes_from, any_takes_from, refined_at, takes, taken, target, AreOf, Fixes}
 use Rattle.samr_fill.proofs.Corners.{met_is}
 use Rattle.samr_fill.proofs.Fixing.{fixes_written, fixes_other, fixes_none}

@@ -33,17 +33,17 @@ use Rattle.samr_sched.specs.declared.plan.Request.{Request}
 use Rattle.samr_sched.specs.declared.plan.BoxPlan.{BoxPlan}
 use Rattle.samr_sched.specs.declared.plan.FieldPlan.{FieldPlan}
 use Rattle.samr_sched.specs.declared.plan.Plan.{Plan}
-use Rattle.samr_sched.specs.Scheduling.{Scheduling, IsGhost, domain_of, frame_of, coarse_frame}
+use Rattle.samr_sched.specs.Ask.{Scheduling, IsGhost, domain_of, frame_of, coarse_frame}
 use Rattle.samr_sched.specs.Plans.{copies, field_plan, box_plan, box_plans, requests, plan_of}
 use Rattle.samr_data.specs.declared.parcel.Parcel.{Parcel}
-use Rattle.samr_fill.specs.Filling.{Filling, IsFilling}
+use Rattle.samr_fill.specs.Fill.{Filling, IsFilling}
 use Rattle.samr_fill.specs.FillParts.{HasValues, HasPatches}
-use Rattle.samr_fill.specs.Parcels.{copied_along, asked_region, answered, parcels}
+use Rattle.samr_fill.specs.FillRow.{copied_along, asked_region, answered, parcels}
 use Rattle.samr_fill.specs.Sending.{for_some, then_some, parcel_of, copied_from, place_copies, field_copies, box_copies, all_copies, answer_of, is_box, answer_in, answer_from, parcels_from}
 use Rattle.samr_fill.proofs.Numbered.{numbered_at, get_member, some_same, none_some, slice_get_map}
 use Rattle.samr_fill.proofs.FieldTasks.{length_map, there_below}
 use Rattle.samr_fill.proofs.Truths.{IsEdge, same_by, copy_edge, down_edge, own_box, in_own, region_in_head}
-use Rattle.samr_fill.proofs.ParcelLaws.{IsRequested, from_requests}
+use Rattle.samr_fill.proofs.FillRowLaws.{IsRequested, from_requests}
 use Rattle.samr_fill.proofs.Pieces.{order_moved}
 
 -- lists made of numbered lists

@@ -31,16 +31,16 @@ use Rattle.samr_data.proofs.Lists.{length-listed, value_in-listed}
 use Rattle.samr_ops.specs.declared.rules.Rules.{Rules}
 use Rattle.samr_ops.specs.Rules.{refined_value}
 use Rattle.samr_sched.specs.declared.plan.Request.{Request}
-use Rattle.samr_sched.specs.Scheduling.{Scheduling, IsScheduling, IsGhost, domain_of, coarse_domain, frame_of, coarse_frame, selves_of, downs_of}
+use Rattle.samr_sched.specs.Ask.{Scheduling, IsScheduling, IsGhost, domain_of, coarse_domain, frame_of, coarse_frame, selves_of, downs_of}
 use Rattle.samr_sched.specs.Plans.{copies, rest, request, requests, plan_of}
 use Rattle.samr_data.specs.declared.parcel.Parcel.{Parcel}
-use Rattle.samr_fill.specs.Filling.{Filling, IsFilling, child, value_of}
-use Rattle.samr_fill.specs.Parcels.{copied_along, asked_region, answered, parcels}
+use Rattle.samr_fill.specs.Fill.{Filling, IsFilling, child, value_of}
+use Rattle.samr_fill.specs.FillRow.{copied_along, asked_region, answered, parcels}
 use Rattle.samr_fill.specs.Writing.{is_for, takes, taken, target, IsFit, AreOf}
 use Rattle.samr_fill.proofs.Corners.{met_is}
 use Rattle.samr_fill.proofs.Pieces.{has_moved}
 use Rattle.samr_fill.proofs.Insides.{rest_holds, rest_means, level_value, coarse_value}
-use Rattle.samr_fill.proofs.ParcelLaws.{IsCopied, IsAnswer, IsRequested, from_requests, from_parcels}
+use Rattle.samr_fill.proofs.FillRowLaws.{IsCopied, IsAnswer, IsRequested, from_requests, from_parcels}
 use Rattle.samr_fill.proofs.Turning.{step_back, opposite_step, there_and_back, minus_plus, target_inside}
 use Rattle.samr_fill.proofs.Numbered.{numbered_at, slice_get_map, get_member, some_same}
 

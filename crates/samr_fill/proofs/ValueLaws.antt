@@ -5,7 +5,7 @@ use Rattle.samr_box.specs.Corners.{Holds}
 use Rattle.samr_border.proofs.TurnLaws.{wrapped_stays}
 use Rattle.samr_border.proofs.ImageCells.{image_home, image_wrapped}
 use Rattle.samr_nest.proofs.StayLaws.{cell_of_frame}
-use Rattle.samr_sched.specs.Scheduling.{domain_of, frame_of}
+use Rattle.samr_sched.specs.Ask.{domain_of, frame_of}
 use Rattle.samr_fill.specs.Laws.{CopiesAgree, TheLevelKeepsItsValues}
 use Rattle.samr_fill.proofs.Insides.{level_value}
 

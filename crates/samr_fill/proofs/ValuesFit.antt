@@ -20,8 +20,8 @@ use Rattle.samr_ops.specs.Rules.{IsRules, refined_value}
 use Rattle.samr_ops.specs.Walks.{walked}
 use Rattle.samr_ops.proofs.Fitting.{refined_values_fit}
 use Rattle.samr_ops.proofs.WalkLaws.{fixed_values_fit, walks_end_inside, walks_stay_inside}
-use Rattle.samr_sched.specs.Scheduling.{domain_of, frame_of, coarse_frame}
-use Rattle.samr_fill.specs.Filling.{Filling, IsFilling, has, child, inner_value, walked_value, value_of}
+use Rattle.samr_sched.specs.Ask.{domain_of, frame_of, coarse_frame}
+use Rattle.samr_fill.specs.Fill.{Filling, IsFilling, has, child, inner_value, walked_value, value_of}
 use Rattle.samr_fill.specs.Laws.{ValuesFit}
 use Rattle.samr_fill.proofs.Fixing.{by_test}
 use Rattle.samr_fill.proofs.Insides.{any_member, member_any, not_outside}

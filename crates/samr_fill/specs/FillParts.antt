@@ -9,7 +9,7 @@ use Rattle.samr_data.specs.Grids.{Grid, value_at, grid_of}
 use Rattle.samr_ops.specs.declared.rules.Rules.{Rules}
 use Rattle.samr_sched.specs.declared.plan.Plan.{Plan}
 use Rattle.samr_sched.specs.Plans.{plan_of}
-use Rattle.samr_fill.specs.Filling.{Filling, IsFilling, value_of}
+use Rattle.samr_fill.specs.Fill.{Filling, IsFilling, value_of}
 
 -- patches of boxes, field by field and box by box, whose boxes have these values; nothing is said of their ghost cells
 pub record HasValues (values : ℕ → IVec → ℕ) (boxes : List Owned) (patches : List (List Grid)) : Type 0 where

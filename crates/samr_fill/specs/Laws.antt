@@ -8,8 +8,8 @@ use Rattle.samr_box.specs.Lists.{Member}
 use Rattle.samr_level.specs.Refs.{Owned}
 use Rattle.samr_border.specs.Turns.{IsShiftOf}
 use Rattle.samr_ops.specs.declared.rules.Rules.{Rules}
-use Rattle.samr_sched.specs.Scheduling.{frame_of}
-use Rattle.samr_fill.specs.Filling.{Filling, IsFilling, value_of}
+use Rattle.samr_sched.specs.Ask.{frame_of}
+use Rattle.samr_fill.specs.Fill.{Filling, IsFilling, value_of}
 
 -- the value of a cell of an image of a box of the level is that of the cell of the box
 abbrev pub CopiesAgree : Type 0

@@ -10,9 +10,9 @@ use Rattle.samr_peers.specs.Peers.{other_owners}
 use Rattle.samr_sched.specs.declared.plan.Plan.{Plan}
 use Rattle.samr_sched.specs.Plans.{plan_of}
 use Rattle.samr_data.specs.declared.parcel.Parcel.{Parcel}
-use Rattle.samr_fill.specs.Filling.{Filling, IsFilling}
+use Rattle.samr_fill.specs.Fill.{Filling, IsFilling}
 use Rattle.samr_fill.specs.FillParts.{HasValues}
-use Rattle.samr_fill.specs.Parcels.{parcels, hears, fill_row}
+use Rattle.samr_fill.specs.FillRow.{parcels, hears, fill_row}
 
 -- its patches and its plan, its parcels for itself, and who tells it something
 pub record IsReady (plan : Plan) (patches : List (List Grid)) (rules : List Rules) (mine : List Parcel) (senders : List ℕ) (w : Filling) (r : ℕ) : Type 0 where

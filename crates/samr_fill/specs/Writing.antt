@@ -17,7 +17,7 @@ use Rattle.samr_ops.specs.declared.rules.Rules.{Rules}
 use Rattle.samr_ops.specs.Rules.{refined_value}
 use Rattle.samr_sched.specs.declared.plan.Plan.{Plan}
 use Rattle.samr_data.specs.declared.parcel.Parcel.{Parcel}
-use Rattle.samr_fill.specs.Filling.{child}
+use Rattle.samr_fill.specs.Fill.{child}
 
 -- the cell of a parcel's region that stands for a cell about the head
 abbrev pub seen_at : Plan → Parcel → IVec → IVec

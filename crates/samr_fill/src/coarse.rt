@@ -1,3 +1,5 @@
+//! Writing of values of the level below, refined.
+
 ghost use Rattle.std.specs.Prelude.{◌≡◌, ◌<◌, ◌&&◌, ℕ, pos, length, IfOk, OnOk, IsTrue, true};
 ghost use Rattle.std.specs.List.{All};
 ghost use Rattle.samr_box.specs.declared.vector.IVec.{IVec as Cell};
@@ -8,7 +10,7 @@ ghost use Rattle.samr_data.specs.Places.{moved_back};
 ghost use Rattle.samr_data.specs.Values.{value_in};
 ghost use Rattle.samr_data.specs.Grids.{over, value_at, written, copied};
 ghost use Rattle.samr_ops.specs.Rules.{IsOffset, refined_value};
-ghost use Rattle.samr_fill.specs.Filling.{child};
+ghost use Rattle.samr_fill.specs.Fill.{child};
 ghost use Rattle.samr_fill.specs.Writing.{refined_at, takes_from, any_takes_from, takes, taken, AreOf, Fixes};
 
 use crate::parts::part_of;

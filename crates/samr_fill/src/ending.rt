@@ -1,3 +1,5 @@
+//! The values of cells beyond the borders.
+
 ghost use Rattle.std.specs.Prelude.{◌≡◌, IfOk, slice_index};
 ghost use Rattle.samr_box.specs.declared.vector.IVec.{IVec as Cell};
 ghost use Rattle.samr_box.specs.Corners.{Holds};

@@ -1,11 +1,13 @@
+//! The stage of a fill.
+
 ghost use Rattle.std.specs.Prelude.{◌≡◌, ◌++◌, ℕ, ◌<◌, ◌^◌, length, IfOk, OnOk};
 ghost use Rattle.std.specs.List.{flat_map};
 ghost use Rattle.samr_stage.specs.declared.stage.Held.{Held};
 ghost use Rattle.samr_stage.specs.Row.{heard, column};
 ghost use Rattle.samr_peers.specs.PeerLaws.{heavy};
-ghost use Rattle.samr_fill.specs.Filling.{Filling};
+ghost use Rattle.samr_fill.specs.Fill.{Filling};
 ghost use Rattle.samr_fill.specs.FillParts.{HasPatches, filled};
-ghost use Rattle.samr_fill.specs.Parcels.{fill_row};
+ghost use Rattle.samr_fill.specs.FillRow.{fill_row};
 ghost use Rattle.samr_fill.specs.Staging.{IsReady, HasLetters};
 ghost use Rattle.samr_fill.specs.StageLaws.{fill_between};
 

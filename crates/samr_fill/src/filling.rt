@@ -1,10 +1,12 @@
+//! The patches of a rank with all their values, from parcels.
+
 ghost use Rattle.std.specs.Prelude.{◌≡◌, ◌<◌, ◌^◌, ℕ, IfOk, length, map};
 ghost use Rattle.std.specs.List.{enumerate_from};
 ghost use Rattle.samr_level.specs.Levels.{own};
 ghost use Rattle.samr_data.specs.Grids.{grid_of};
-ghost use Rattle.samr_fill.specs.Filling.{Filling, value_of};
+ghost use Rattle.samr_fill.specs.Fill.{Filling, value_of};
 ghost use Rattle.samr_fill.specs.FillParts.{filled_field, filled};
-ghost use Rattle.samr_fill.specs.Tasks.{IsCopyOf, IsPatchOf, IsBoxOf, IsField, AreFields};
+ghost use Rattle.samr_fill.specs.FilledSoFar.{IsCopyOf, IsPatchOf, IsBoxOf, IsField, AreFields};
 
 use crate::ending::ended;
 use crate::sorting::for_box;

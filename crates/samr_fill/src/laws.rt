@@ -1,5 +1,7 @@
+//! The laws of the values of a filled level.
+
 ghost use Rattle.samr_fill.specs.Laws.{CopiesAgree, TheLevelKeepsItsValues, ValuesFit};
-ghost use Rattle.samr_fill.specs.Rows.{ValuesOfRows};
+ghost use Rattle.samr_fill.specs.Worked.{ValuesOfRows};
 
 /// The law that the cells of an image of a box of the level have the values of the box.
 pub fn copies_agree()

@@ -1,3 +1,5 @@
+//! The letters of a fill: all that a rank has for each other.
+
 ghost use Rattle.std.specs.Prelude.{◌≡◌, ◌++◌, ◌<◌, ◌^◌, nat_eq, length, map, filter, IfOk, OnOk};
 ghost use Rattle.std.specs.List.{flat_map, find};
 ghost use Rattle.std.specs.Option.{option_copied};

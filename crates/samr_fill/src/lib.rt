@@ -4,10 +4,10 @@
 //! its own, and last come the cells beyond the borders. Contracts speak of the values of whole levels.
 #![tactic(auto)]
 
-mod all_fills;
 mod coarse;
 mod ending;
 mod fill;
+mod fill_on_all;
 mod filling;
 mod laws;
 mod letters;
@@ -16,8 +16,8 @@ mod sending;
 mod sorting;
 mod writing;
 
-pub use all_fills::fill_all;
 pub use fill::Fill;
+pub use fill_on_all::fill_all;
 pub use laws::{copies_agree, the_level_keeps_its_values, values_fit, values_of_rows};
 
 #[cfg(test)]

@@ -1,3 +1,5 @@
+//! Parts of boxes: between corners, near an image, and moved back.
+
 ghost use Rattle.std.specs.Prelude.{◌≡◌, pos, IfOk};
 ghost use Rattle.samr_box.specs.Vector.{alike, AtMost, Between, InRange, times};
 ghost use Rattle.samr_box.specs.Corners.{IsBox, met, grown, holds_box};

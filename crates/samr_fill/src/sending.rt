@@ -1,3 +1,5 @@
+//! The parcels that a rank has for another: copies, and answers to requests.
+
 ghost use Rattle.std.specs.Prelude.{◌≡◌, ◌++◌, ◌<◌, ◌^◌, cond, nat_eq, length, IfOk, OnOk, IsTrue, true, false};
 ghost use Rattle.std.specs.List.{filter_map, find};
 ghost use Rattle.std.specs.Option.{option_map, option_copied, option_to_list};

@@ -1,3 +1,5 @@
+//! Parcels by the box and the field that they are for.
+
 ghost use Rattle.std.specs.Prelude.{◌≡◌, filter};
 ghost use Rattle.std.specs.List.Sorted.{IsPermutation};
 ghost use Rattle.samr_level.specs.RefOrders.{ref_cmp};

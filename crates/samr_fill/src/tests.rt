@@ -1,3 +1,5 @@
+//! A test of the parcels that one rank has for another.
+
 ghost use Rattle.std.specs.Prelude.{◌<◌};
 
 use crate::sending::parcels_for;

@@ -1,3 +1,5 @@
+//! Writing of parcels into the patch that they are for.
+
 ghost use Rattle.std.specs.Prelude.{◌≡◌, ℕ, pos, length, OnOk, IsTrue};
 ghost use Rattle.std.specs.List.{All};
 ghost use Rattle.samr_box.specs.declared.vector.IVec.{IVec as Cell};

@@ -1,3 +1,5 @@
+//! The buckets of a grid, and the places of boxes in them.
+
 ghost use Rattle.std.specs.Prelude.{◌≡◌, ◌++◌, [], IfOk, OnOk, false};
 ghost use Rattle.std.specs.Ordering.{is_eq};
 ghost use Rattle.samr_box.specs.declared.vector.IVec.{IVec};

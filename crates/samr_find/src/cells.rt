@@ -1,3 +1,5 @@
+//! The cells of a box as a list.
+
 ghost use Rattle.std.specs.Prelude.{◌≡◌, ◌++◌, OnOk, IfOk, ◌<◌};
 ghost use Rattle.samr_box.specs.Corners.{IsBox, span};
 ghost use Rattle.samr_box.specs.declared.vector.Axis.TheVariants.{I, J, K};

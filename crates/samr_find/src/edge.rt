@@ -1,3 +1,5 @@
+//! The edge of the buckets, and the numbers of the buckets that a box meets.
+
 ghost use Rattle.std.specs.Prelude.{◌≡◌};
 ghost use Rattle.samr_box.specs.Corners.{IsBox};
 ghost use Rattle.samr_box.specs.Ratios.{coarse, coarsened};

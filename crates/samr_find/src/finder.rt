@@ -1,3 +1,5 @@
+//! The finder: which boxes of a list meet a box, by buckets or by a look at each.
+
 ghost use Rattle.std.specs.Prelude.{◌≡◌, ◌<◌, ◌^◌, ◌++◌, OnOk, IfOk, filter, length, nat_lt, All};
 ghost use Rattle.std.specs.List.{flat_map};
 ghost use Rattle.samr_box.specs.declared.vector.IVec.{IVec};

@@ -11,6 +11,3 @@ mod edge;
 mod finder;
 
 pub use finder::Finder;
-
-#[cfg(test)]
-mod tests;

@@ -1,4 +1,5 @@
 //! Draws from the generator of a seed.
+
 ghost use Rattle.std.specs.Prelude.{◌≡◌, ◌+◌, ◌<◌, ℕ};
 ghost use Rattle.samr_generate.specs.Draws.{generator, draw};
 

@@ -1,4 +1,5 @@
 //! The problem that is made of a seed and a size.
+
 ghost use Rattle.std.specs.Prelude.{◌≡◌, ◌∷◌, [], ◌≤◌, ◌<◌, ◌+◌, ◌*◌, ◌-ℤ◌, pos, ℕ, IfOk};
 ghost use Rattle.samr_generate.specs.Draws.{generator, draw};
 ghost use Rattle.samr_generate.specs.Made.{flat, ball, balls, square, ratios, field, made};

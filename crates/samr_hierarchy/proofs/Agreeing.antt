@@ -18,8 +18,8 @@ use Rattle.samr_nest.proofs.StayLaws.{cell_of_frame}
 use Rattle.samr_ops.specs.Rules.{refined_value, updated_value, coarsened_value}
 use Rattle.samr_ops.specs.Walks.{walked}
 use Rattle.samr_ops.proofs.WalkLaws.{walks_end_inside, walks_stay_inside}
-use Rattle.samr_sched.specs.Scheduling.{domain_of, frame_of, coarse_frame}
-use Rattle.samr_fill.specs.Filling.{IsFilling, child, inner_value, walked_value, value_of}
+use Rattle.samr_sched.specs.Ask.{domain_of, frame_of, coarse_frame}
+use Rattle.samr_fill.specs.Fill.{IsFilling, child, inner_value, walked_value, value_of}
 use Rattle.samr_fill.proofs.Insides.{any_member, member_any, not_outside}
 use Rattle.samr_fill.proofs.Numbered.{get_member}
 use Rattle.samr_fill.proofs.FieldTasks.{length_map}
@@ -28,8 +28,8 @@ use Rattle.samr_fill.proofs.WalkEnds.{wraps_inside, plain_inside}
 use Rattle.samr_fill.proofs.Ends.{near_walk, walk_about}
 use Rattle.samr_data.proofs.PlaceLaws.{same_test}
 use Rattle.samr_values.specs.Patches.{has}
-use Rattle.samr_values.specs.Renewing.{Renewing, new_value}
-use Rattle.samr_values.specs.Coarsening.{is_under, children, merged}
+use Rattle.samr_values.specs.Values.{Renewing, new_value}
+use Rattle.samr_values.specs.Coarsen.{is_under, children, merged}
 use Rattle.samr_values.specs.Updating.{faces}
 use Rattle.samr_problem.specs.declared.field.Field.{Field}
 use Rattle.samr_problem.specs.Fields.{Fields}

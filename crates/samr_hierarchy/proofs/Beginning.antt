@@ -17,14 +17,14 @@ use Rattle.samr_data.specs.Grids.{Grid, value_at, grid_of}
 use Rattle.samr_data.proofs.Lists.{value_in-listed}
 use Rattle.samr_ops.specs.declared.rules.Rules.{Rules}
 use Rattle.samr_ops.specs.Rules.{IsRules}
-use Rattle.samr_sched.specs.Asking.{KnowsBelow}
+use Rattle.samr_sched.specs.AskParts.{KnowsBelow}
 use Rattle.samr_sched.proofs.PlanLaws.{can_plan}
 use Rattle.samr_fill.specs.FillParts.{HasValues as HasFillValues, filled}
-use Rattle.samr_fill.specs.Filling.{value_of}
+use Rattle.samr_fill.specs.Fill.{value_of}
 use Rattle.samr_fill.proofs.Numbered.{some_same, none_some, get_member}
 use Rattle.samr_fill.proofs.ValueLaws.{the_level_keeps_its_values}
 use Rattle.samr_values.specs.Patches.{HasValues}
-use Rattle.samr_values.specs.Renewals.{KnowsOld}
+use Rattle.samr_values.specs.ValuesParts.{KnowsOld}
 use Rattle.samr_problem.specs.declared.field.Field.{Field}
 use Rattle.samr_problem.specs.Fields.{Fields}
 use Rattle.samr_mesh.specs.Domains.{area_of, ratio_to}

@@ -15,7 +15,7 @@ use Rattle.samr_level.specs.Levels.{own}
 use Rattle.samr_data.specs.Grids.{Grid, grid_of}
 use Rattle.samr_data.proofs.Lists.{value_in-listed}
 use Rattle.samr_ops.specs.declared.rules.Rules.{Rules}
-use Rattle.samr_fill.specs.Filling.{value_of}
+use Rattle.samr_fill.specs.Fill.{value_of}
 use Rattle.samr_fill.specs.FillParts.{filled}
 use Rattle.samr_fill.proofs.Numbered.{some_same, none_some, get_member}
 use Rattle.samr_fill.proofs.ValuesFit.{values_fit}

@@ -20,7 +20,7 @@ use Rattle.samr_nest.proofs.StayLaws.{cell_of_frame}
 use Rattle.samr_ops.specs.declared.rules.Rules.{Rules}
 use Rattle.samr_ops.specs.Rules.{IsRules}
 use Rattle.samr_fill.proofs.Numbered.{some_same, none_some}
-use Rattle.samr_values.specs.Renewing.{IsRenewing}
+use Rattle.samr_values.specs.Values.{IsRenewing}
 use Rattle.samr_problem.specs.declared.field.Field.{Field}
 use Rattle.samr_problem.specs.Fields.{Fields}
 use Rattle.samr_mesh.specs.Domains.{area_of, step_of, ratio_to, area_at}

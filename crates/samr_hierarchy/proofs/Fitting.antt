@@ -21,8 +21,8 @@ use Rattle.samr_ops.specs.declared.rules.Rules.{Rules}
 use Rattle.samr_ops.proofs.Fitting.{updated_values_fit, coarsened_values_fit}
 use Rattle.samr_fill.proofs.Insides.{member_any}
 use Rattle.samr_values.specs.Patches.{has}
-use Rattle.samr_values.specs.Renewing.{Renewing, new_value, IsRenewing}
-use Rattle.samr_values.specs.Coarsening.{Coarsening, IsRefinement, is_under, children, merged}
+use Rattle.samr_values.specs.Values.{Renewing, new_value, IsRenewing}
+use Rattle.samr_values.specs.Coarsen.{Coarsening, IsRefinement, is_under, children, merged}
 use Rattle.samr_level.proofs.BlockCells.{Member-from_range}
 use Rattle.samr_values.proofs.Merges.{one_full}
 use Rattle.samr_values.proofs.ValueLaws.{new_values_fit}

@@ -19,8 +19,8 @@ use Rattle.samr_ops.specs.declared.rules.Rules.{Rules}
 use Rattle.samr_fill.proofs.Numbered.{some_same, none_some, get_member}
 use Rattle.samr_fill.specs.FillParts.{HasValues as HasFillValues}
 use Rattle.samr_values.specs.Patches.{HasValues}
-use Rattle.samr_values.specs.Renewing.{Renewing, renewed as renewed_patches, new_value}
-use Rattle.samr_values.specs.Coarsening.{coarsened_patches, is_under, merged, after as after_coarsening}
+use Rattle.samr_values.specs.Values.{Renewing, renewed as renewed_patches, new_value}
+use Rattle.samr_values.specs.Coarsen.{coarsened_patches, is_under, merged, after as after_coarsening}
 use Rattle.samr_problem.specs.declared.field.Field.{Field}
 use Rattle.samr_problem.specs.Fields.{Fields}
 use Rattle.samr_mesh.specs.Meshes.{level_at}

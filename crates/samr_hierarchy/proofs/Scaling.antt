@@ -15,7 +15,7 @@ use Rattle.samr_box.proofs.Vectors.{same_cell}
 use Rattle.samr_box.proofs.Members.{Member-from_map}
 use Rattle.samr_border.proofs.TurnLaws.{wrapped_coarse}
 use Rattle.samr_level.specs.Regions.{Area, IsCellOf, IsInside, finer_area}
-use Rattle.samr_mesh.proofs.Refining.{finer_twice}
+use Rattle.samr_level.proofs.Refining.{finer_twice}
 
 -- refined twice is refined by the product
 pub area_twice : (a : Area) (r s : IVec) → finer_area a (times r s) ≡ finer_area (finer_area a r) s

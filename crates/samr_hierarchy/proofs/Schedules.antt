@@ -19,7 +19,7 @@ use Rattle.samr_level.proofs.FinerAreas.{IsArea-finer}
 use Rattle.samr_level.proofs.Reaches.{rounded_up-least}
 use Rattle.samr_nest.proofs.StayLaws.{cell_of_frame}
 use Rattle.samr_ops.specs.declared.rules.Rules.{Rules}
-use Rattle.samr_sched.specs.Scheduling.{IsScheduling, IsSourced, IsGhost}
+use Rattle.samr_sched.specs.Ask.{IsScheduling, IsSourced, IsGhost}
 use Rattle.samr_sched.proofs.OneOrigin.{one_origin}
 use Rattle.samr_problem.specs.declared.field.Field.{Field}
 use Rattle.samr_problem.specs.Fields.{Fields}

@@ -15,9 +15,9 @@ use Rattle.samr_ops.specs.declared.rules.Rules.{Rules}
 use Rattle.samr_ops.specs.Rules.{refined_value}
 use Rattle.samr_ops.specs.Walks.{walked}
 use Rattle.samr_ops.proofs.WalkLaws.{walks_end_inside, walks_stay_inside}
-use Rattle.samr_sched.specs.Scheduling.{domain_of, frame_of, coarse_frame}
+use Rattle.samr_sched.specs.Ask.{domain_of, frame_of, coarse_frame}
 use Rattle.samr_sched.specs.Origins.{is_beyond}
-use Rattle.samr_fill.specs.Filling.{Filling, IsFilling, has, child, walked_value, value_of}
+use Rattle.samr_fill.specs.Fill.{Filling, IsFilling, has, child, walked_value, value_of}
 use Rattle.samr_fill.proofs.Insides.{not_outside}
 use Rattle.samr_fill.proofs.Numbered.{some_same, none_some, get_member}
 use Rattle.samr_fill.proofs.FieldTasks.{length_map}

@@ -12,7 +12,7 @@ use Rattle.samr_level.specs.Levels.{own}
 use Rattle.samr_data.specs.Grids.{Grid, value_at, grid_of}
 use Rattle.samr_data.proofs.Lists.{value_in-listed, listed_same}
 use Rattle.samr_ops.specs.Rules.{updated_value}
-use Rattle.samr_fill.specs.Filling.{value_of}
+use Rattle.samr_fill.specs.Fill.{value_of}
 use Rattle.samr_fill.proofs.Numbered.{get_member}
 use Rattle.samr_fill.proofs.ValueLaws.{the_level_keeps_its_values}
 use Rattle.samr_values.specs.Updating.{faces}

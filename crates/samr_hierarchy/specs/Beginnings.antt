@@ -6,10 +6,10 @@ use Rattle.samr_level.specs.Levels.{own}
 use Rattle.samr_level.specs.Pairs.{part, pair}
 use Rattle.samr_data.specs.Grids.{Grid}
 use Rattle.samr_sched.specs.Plans.{plan_of}
-use Rattle.samr_sched.specs.Asking.{HasLevels, self_pair, down_pair}
+use Rattle.samr_sched.specs.AskParts.{HasLevels, self_pair, down_pair}
 use Rattle.samr_fill.specs.FillParts.{HasPatches, filled}
-use Rattle.samr_values.specs.Renewals.{HasOld}
-use Rattle.samr_values.specs.Coarsenings.{HasFine}
+use Rattle.samr_values.specs.ValuesParts.{HasOld}
+use Rattle.samr_values.specs.CoarsenParts.{HasFine}
 use Rattle.samr_problem.specs.Fields.{Fields}
 use Rattle.samr_mesh.specs.Domains.{area_of, step_of, ratio_to}
 use Rattle.samr_mesh.specs.Meshes.{level_at}

@@ -6,10 +6,10 @@ use Rattle.samr_box.specs.Corners.{holds}
 use Rattle.samr_level.specs.Refs.{Owned}
 use Rattle.samr_level.specs.Levels.{own}
 use Rattle.samr_data.specs.Grids.{Grid, grid_of}
-use Rattle.samr_sched.specs.Scheduling.{Scheduling}
-use Rattle.samr_fill.specs.Filling.{Filling}
-use Rattle.samr_values.specs.Renewing.{Renewing}
-use Rattle.samr_values.specs.Coarsening.{Coarsening}
+use Rattle.samr_sched.specs.Ask.{Scheduling}
+use Rattle.samr_fill.specs.Fill.{Filling}
+use Rattle.samr_values.specs.Values.{Renewing}
+use Rattle.samr_values.specs.Coarsen.{Coarsening}
 use Rattle.samr_problem.specs.declared.field.Field.{Field}
 use Rattle.samr_problem.specs.Fields.{Fields}
 use Rattle.samr_mesh.specs.Domains.{area_of, step_of, ratio_to}

@@ -6,11 +6,11 @@ use Rattle.samr_box.specs.Lists.{Member}
 use Rattle.samr_level.specs.Refs.{Owned}
 use Rattle.samr_level.specs.Levels.{IsCellIn}
 use Rattle.samr_sched.specs.declared.origin.Origin.{Origin}
-use Rattle.samr_sched.specs.Scheduling.{IsScheduling, IsSourced}
+use Rattle.samr_sched.specs.Ask.{IsScheduling, IsSourced}
 use Rattle.samr_sched.specs.Origins.{origins}
-use Rattle.samr_fill.specs.Filling.{IsFilling}
-use Rattle.samr_values.specs.Renewing.{IsRenewing}
-use Rattle.samr_values.specs.Coarsening.{IsCoarsening}
+use Rattle.samr_fill.specs.Fill.{IsFilling}
+use Rattle.samr_values.specs.Values.{IsRenewing}
+use Rattle.samr_values.specs.Coarsen.{IsCoarsening}
 use Rattle.samr_problem.specs.declared.field.Field.{Field}
 use Rattle.samr_problem.specs.Fields.{Fields}
 use Rattle.samr_mesh.specs.Meshes.{level_at, is_due}

@@ -4,8 +4,8 @@ use Rattle.samr_level.specs.Refs.{Owned}
 use Rattle.samr_level.specs.Levels.{own}
 use Rattle.samr_fill.specs.FillParts.{HasValues as HasFillValues}
 use Rattle.samr_values.specs.Patches.{HasValues}
-use Rattle.samr_values.specs.Renewing.{renewed}
-use Rattle.samr_values.specs.Coarsening.{coarsened_patches}
+use Rattle.samr_values.specs.Values.{renewed}
+use Rattle.samr_values.specs.Coarsen.{coarsened_patches}
 use Rattle.samr_problem.specs.Fields.{Fields}
 use Rattle.samr_mesh.specs.Meshes.{level_at}
 use Rattle.samr_mesh.specs.Soundness.{IsMesh, IsRemade}

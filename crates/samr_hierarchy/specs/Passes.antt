@@ -4,9 +4,9 @@ use Rattle.samr_box.specs.declared.vector.IVec.{IVec}
 use Rattle.samr_level.specs.Refs.{Owned}
 use Rattle.samr_ops.specs.declared.rules.Rules.{Rules}
 use Rattle.samr_ops.specs.Rules.{updated_value}
-use Rattle.samr_fill.specs.Filling.{Filling, value_of}
-use Rattle.samr_values.specs.Renewing.{Renewing, new_value}
-use Rattle.samr_values.specs.Coarsening.{is_under, merged}
+use Rattle.samr_fill.specs.Fill.{Filling, value_of}
+use Rattle.samr_values.specs.Values.{Renewing, new_value}
+use Rattle.samr_values.specs.Coarsen.{is_under, merged}
 use Rattle.samr_values.specs.Updating.{faces}
 use Rattle.samr_problem.specs.declared.field.Field.{Field}
 use Rattle.samr_problem.specs.Fields.{Fields}

@@ -6,7 +6,7 @@ use Rattle.samr_box.specs.Lists.{Member}
 use Rattle.samr_level.specs.Levels.{IsLevel, IsNested, IsCellIn}
 use Rattle.samr_problem.specs.Fields.{Fields}
 use Rattle.samr_problem.specs.Problems.{IsProblem}
-use Rattle.samr_mesh.specs.Cutting.{IsDeep}
+use Rattle.samr_nest.specs.CutLevels.{IsDeep}
 use Rattle.samr_mesh.specs.Domains.{step_of, area_at}
 use Rattle.samr_mesh.specs.Meshes.{level_at, mesh}
 use Rattle.samr_mesh.specs.Passes.{Pass, tags_in, clusters_of, new_level}

@@ -10,9 +10,9 @@ use Rattle.samr_ops.specs.declared.rules.Rules.{Rules}
 use Rattle.samr_ops.specs.Rules.{refined_value}
 use Rattle.samr_ops.specs.Walks.{walked}
 use Rattle.samr_sched.specs.declared.origin.Origin.{Origin}
-use Rattle.samr_sched.specs.Scheduling.{Scheduling, frame_of, coarse_frame}
+use Rattle.samr_sched.specs.Ask.{Scheduling, frame_of, coarse_frame}
 use Rattle.samr_sched.specs.Origins.{is_beyond, origins}
-use Rattle.samr_fill.specs.Filling.{Filling, has, child, value_of}
+use Rattle.samr_fill.specs.Fill.{Filling, has, child, value_of}
 use Rattle.samr_problem.specs.declared.field.Field.{Field}
 use Rattle.samr_problem.specs.Fields.{Fields}
 use Rattle.samr_mesh.specs.Meshes.{level_at}

@@ -1,3 +1,5 @@
+//! What a read or a write that failed answers, and why a transfer gave no bytes.
+
 ghost use Rattle.std.specs.Prelude.{◌≡◌};
 
 use std::alloc::AllocError as NoMemory;

@@ -1,3 +1,5 @@
+//! A source and a sink in memory, of which chosen calls fail.
+
 ghost use Rattle.std.specs.Prelude.{◌≡◌, ℕ, ◌≤◌, List, [], length, min, drop, take, vec_len, vec_capacity, Some, IfOk, OnErr, is_err};
 ghost use Rattle.std.specs.Io.{ReadsAtMost, WritesAtMost};
 ghost use Rattle.std.specs.Io.KnownBytes.{ReadConsumes, WriteAppends};
@@ -165,63 +167,5 @@ impl Sink for MemSink {
         }
         self.bytes.extend_from_slice(&piece[..count]).unwrap();
         Ok(count)
-    }
-}
-
-#[cfg(test)]
-mod tests {
-    use super::*;
-    use std::test::Fail;
-
-    const NEVER: u64 = u64::MAX;
-
-    #[test]
-    fn sink_calls(rt: HostRuntime) -> Result<(), Fail> {
-        let fault = Err(Failed);
-        // The room, the most bytes of a call, the call that fails, the piece that is written three
-        // times, the answers, the bytes held and the count of faults.
-        let rows = [
-            (4, 8, NEVER, "abcde", [fault, fault, fault], "", 3),
-            (9, 8, 1, "abc", [Ok(3), fault, Ok(3)], "abcabc", 1),
-            (9, 2, 2, "abc", [Ok(2), Ok(2), fault], "abab", 1),
-            (6, 4, NEVER, "abcde", [Ok(4), fault, fault], "abcd", 2),
-            (9, 0, NEVER, "abc", [Ok(0), Ok(0), Ok(0)], "", 3),
-            (0, 8, NEVER, "", [Ok(0), Ok(0), Ok(0)], "", 0),
-        ];
-        for (room, most, fails, piece, answers, held, faults) in rows {
-            let planned = Vec::from_array(rt.alloc(), [fails])?;
-            let mut sink = MemSink::new(rt.alloc(), room, most, planned)?;
-            for answer in answers {
-                assert_eq!(rt;
-                    sink.write(piece.as_bytes()),
-                    answer,
-                    "room {room}, most {most}"
-                );
-            }
-            assert_eq!(rt; sink.held(), held.as_bytes(), "room {room}, most {most}");
-            assert_eq!(rt; sink.faults, faults, "room {room}, most {most}");
-        }
-        Ok(())
-    }
-
-    #[test]
-    fn source_calls(rt: HostRuntime) -> Result<(), Fail> {
-        let fault = Err(Failed);
-        // The call that fails, the answers to a buffer of two bytes and the count of faults.
-        let rows = [
-            (NEVER, [Ok(2), Ok(2), Ok(1), Ok(0)], 0),
-            (1, [Ok(2), fault, Ok(2), Ok(1)], 1),
-            (3, [Ok(2), Ok(2), Ok(1), fault], 1),
-        ];
-        for (fails, answers, faults) in rows {
-            let bytes = Vec::from_array(rt.alloc(), *b"hello")?;
-            let mut source = MemSource::new(bytes, Vec::from_array(rt.alloc(), [fails])?);
-            let mut buf = [0u8; 2];
-            for answer in answers {
-                assert_eq!(rt; source.read(&mut buf), answer, "fails {fails}");
-            }
-            assert_eq!(rt; source.faults, faults, "fails {fails}");
-        }
-        Ok(())
     }
 }

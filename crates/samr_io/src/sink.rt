@@ -1,3 +1,5 @@
+//! Sinks of bytes, and the transfer that writes a whole text to one.
+
 ghost use Rattle.std.specs.Prelude.{◌≡◌, ℕ, List, OnOk};
 ghost use Rattle.std.specs.declared.option.Option.{Option};
 ghost use Rattle.std.specs.Io.{WritesAtMost};
@@ -48,35 +50,4 @@ pub fn write_whole<K: Sink>(sink: &mut K, text: &[u8]) -> Result<(), Failed>
         at += count;
     }
     Ok(())
-}
-
-#[cfg(test)]
-mod tests {
-    use super::*;
-    use crate::MemSink;
-    use std::test::Fail;
-
-    #[test]
-    fn writes_the_whole_text(rt: HostRuntime) -> Result<(), Fail> {
-        // The room, the most bytes of a call, the call that fails, the answer, and the bytes held.
-        let rows = [
-            (20, 8, 9, Ok(()), "twenty bytes of text"),
-            (19, 8, 9, Err(Failed), "twenty bytes of "),
-            (20, 8, 2, Err(Failed), "twenty bytes of "),
-            (20, 8, 1, Err(Failed), "twenty b"),
-            (20, 8, 0, Err(Failed), ""),
-            (20, 0, 9, Err(Failed), ""),
-        ];
-        for (room, most, fails, answer, held) in rows {
-            let planned = Vec::from_array(rt.alloc(), [fails])?;
-            let mut sink = MemSink::new(rt.alloc(), room, most, planned)?;
-            assert_eq!(rt;
-                write_whole(&mut sink, b"twenty bytes of text"),
-                answer,
-                "call {fails}"
-            );
-            assert_eq!(rt; sink.held(), held.as_bytes(), "call {fails}");
-        }
-        Ok(())
-    }
 }

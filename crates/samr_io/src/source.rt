@@ -1,3 +1,5 @@
+//! Sources of bytes, and the transfer that reads one up to a limit.
+
 ghost use Rattle.std.specs.Prelude.{◌≡◌, ℕ, ◌≤◌, List, length, IfOk};
 ghost use Rattle.std.specs.declared.option.Option.{Option};
 ghost use Rattle.std.specs.Io.{ReadsAtMost};
@@ -56,35 +58,4 @@ pub fn read_up_to<S: Source>(
         bytes.extend_from_slice(&buf[..count])?;
     }
     Ok(bytes)
-}
-
-#[cfg(test)]
-mod tests {
-    use super::*;
-    use crate::MemSource;
-    use std::test::Fail;
-
-    #[test]
-    fn reads_up_to_the_limit(rt: HostRuntime) -> Result<(), Fail> {
-        // The number of bytes, the call that fails, the limit, and the number of bytes read.
-        let rows = [
-            (5, 9, 0, Ok(0)),
-            (5, 9, 4, Ok(4)),
-            (5, 9, 5, Ok(5)),
-            (5, 9, 6, Ok(5)),
-            (5, 1, 5, Ok(5)),
-            (5, 1, 6, Err(ReadError::Failed)),
-            (5, 0, 5, Err(ReadError::Failed)),
-            (9000, 9, 8999, Ok(8999)),
-            (9000, 9, 9001, Ok(9000)),
-            (9000, 2, 9001, Err(ReadError::Failed)),
-        ];
-        for (length, fails, limit, read) in rows {
-            let bytes = vec![in rt.alloc(); 7u8; length]?;
-            let mut source = MemSource::new(bytes, Vec::from_array(rt.alloc(), [fails])?);
-            let answer = read_up_to(rt.alloc(), &mut source, limit);
-            assert_eq!(rt; answer.map(|bytes| bytes.len()), read, "limit {limit}");
-        }
-        Ok(())
-    }
 }

@@ -1,3 +1,5 @@
+//! A source and a sink over std's readers and writers.
+
 ghost use Rattle.std.specs.Prelude.{◌≡◌};
 
 use super::failed::Failed;
@@ -73,71 +75,5 @@ impl<T: Write> Sink for StdSink<T> {
                 Err(Failed)
             }
         }
-    }
-}
-
-#[cfg(test)]
-mod tests {
-    use super::*;
-    use crate::{ReadError, read_up_to, write_whole};
-    use std::io;
-    use std::io::ErrorKind;
-    use std::test::Fail;
-
-    // A reader and a writer that fail at each call.
-    #[derive(Drop)]
-    struct Broken;
-
-    impl Read for Broken {
-        fn read(&mut self, _buf: &mut [u8]) -> io::Result<usize> {
-            Err(io::Error::from(ErrorKind::BrokenPipe))
-        }
-    }
-
-    impl Write for Broken {
-        fn write(&mut self, _buf: &[u8]) -> io::Result<usize> {
-            Err(io::Error::from(ErrorKind::BrokenPipe))
-        }
-
-        fn flush(&mut self) -> io::Result<()> {
-            Ok(())
-        }
-    }
-
-    #[test]
-    fn reads_from_a_reader(rt: HostRuntime) -> Result<(), Fail> {
-        let text: &[u8] = b"hello";
-        let mut source = StdSource::new(text);
-        let bytes = read_up_to(rt.alloc(), &mut source, 9)?;
-        assert_eq!(rt; bytes.as_slice(), text);
-        assert_eq!(rt; source.faults, 0);
-
-        let mut source = StdSource::new(Broken);
-        let answer = read_up_to(rt.alloc(), &mut source, 9);
-        assert_eq!(rt; answer.err(), Some(ReadError::Failed));
-        assert_eq!(rt; source.faults, 1);
-        Ok(())
-    }
-
-    #[test]
-    fn writes_to_a_writer(rt: HostRuntime) -> Result<(), Fail> {
-        let text: &[u8] = b"hello";
-        let mut sink = StdSink::new(Vec::new(rt.alloc()));
-        write_whole(&mut sink, text)?;
-        assert_eq!(rt; sink.writer.as_slice(), text);
-        assert_eq!(rt; sink.faults, 0);
-
-        let mut sink = StdSink::new(Broken);
-        assert_eq!(rt; write_whole(&mut sink, text), Err(Failed));
-        assert_eq!(rt; sink.faults, 1);
-        Ok(())
-    }
-
-    #[test]
-    fn counts_a_stalled_write(rt: HostRuntime) {
-        let mut room = [0u8; 3];
-        let mut sink = StdSink::new(room.as_mut_slice());
-        assert_eq!(rt; write_whole(&mut sink, b"hello"), Err(Failed));
-        assert_eq!(rt; sink.faults, 1);
     }
 }

@@ -13,3 +13,5 @@ pub mod BlockCells
 pub mod Level0Laws
 pub mod Level0Pairs
 pub mod FinerAreas
+pub mod Refining
+pub mod RefinedLinks

@@ -1,9 +1,9 @@
 -- Levels: lists of boxes with owners, of which each rank holds its own.
-use Rattle.std.specs.Prelude.{◌≡◌, ℕ, ◌<◌, List, filter, nat_eq}
+use Rattle.std.specs.Prelude.{◌≡◌, ℕ, ◌<◌, List, map, filter, nat_eq}
 use Rattle.std.specs.List.Sorted.{IsStrictlySortedBy}
 use Rattle.samr_box.specs.declared.vector.IVec.{IVec}
 use Rattle.samr_box.specs.Vector.{AtMost, Within}
-use Rattle.samr_box.specs.Corners.{Holds, Meet}
+use Rattle.samr_box.specs.Corners.{Corners, Holds, Meet}
 use Rattle.samr_box.specs.Ratios.{coarse}
 use Rattle.samr_box.specs.Space.{wrapped}
 use Rattle.samr_box.specs.Lists.{Member}
@@ -18,6 +18,10 @@ IsCellIn level x = (b : Owned) × Member b level × Holds b.bx x
 -- the members that a rank owns, in their order
 unfoldable pub own : ℕ → List Owned → List Owned
 own rank level = filter (λ b. nat_eq b.owner rank) level
+
+-- the boxes that a rank owns
+abbrev pub own_boxes : ℕ → List Owned → List Corners
+own_boxes rank level = map (λ b. b.bx) (own rank level)
 
 -- a level of a domain on this many ranks: in level order, its boxes not empty and in the domain, no two with a common cell
 pub record IsLevel (area : Area) (ranks : ℕ) (level : List Owned) : Type 0 where

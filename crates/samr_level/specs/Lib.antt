@@ -7,3 +7,4 @@ pub mod Blocks
 pub mod Cuts
 pub mod Pairs
 pub mod Neighbours
+pub mod Refined

@@ -1,3 +1,5 @@
+//! Level 0 and its pair with itself, whole and for one rank.
+
 ghost use Rattle.std.specs.Prelude.{◌≡◌, ◌↔◌, ◌<◌, ◌≤◌, ◌^◌, IsTrue, pos, IfOk, length, map, filter};
 ghost use Rattle.samr_box.specs.declared.vector.IVec.{IVec};
 ghost use Rattle.samr_box.specs.Vector.{alike, AtMost};

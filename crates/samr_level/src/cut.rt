@@ -1,3 +1,5 @@
+//! One box cut into blocks, and the blocks of it that meet a window.
+
 ghost use Rattle.std.specs.Prelude.{◌≡◌, ◌++◌, ◌∷◌, [], ◌+◌, ◌*◌, ◌<◌, ◌≤◌, pos, ◌≤ℤ◌, OnOk, filter, ◌^◌, min, unsigned_abs};
 ghost use Rattle.std.specs.Int.{int_max};
 ghost use Rattle.samr_box.specs.declared.vector.Axis.{Axis};

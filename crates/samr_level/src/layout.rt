@@ -1,3 +1,5 @@
+//! The edges of level 0, found by the places of its blocks.
+
 ghost use Rattle.std.specs.Prelude.{◌≡◌, ◌++◌, IfOk, OnOk, map, filter};
 ghost use Rattle.samr_box.specs.Vector.{InRange, plus, minus, times};
 ghost use Rattle.samr_box.specs.Corners.{meets};

@@ -6,6 +6,7 @@
 
 mod blocks;
 mod cut;
+mod laws;
 mod layout;
 mod order;
 mod overlap;
@@ -17,6 +18,7 @@ mod shift;
 mod width;
 
 pub use blocks::{level0, level0_pair, whole_level0};
+pub use laws::refined_levels_are_levels;
 pub use order::{in_level_order, settled};
 pub use overlap::true_overlaps_of;
 pub use parts::{Connector, Mapping, Move, Pair, Part, peers};
@@ -25,6 +27,3 @@ pub use region::Region;
 pub use ruler::{Ruler, overlaps};
 pub use shift::shifts;
 pub use width::{coarse_width, fine_width};
-
-#[cfg(test)]
-mod tests;

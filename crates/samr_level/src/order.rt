@@ -1,3 +1,5 @@
+//! Edges and boxes of a level in order, each once.
+
 ghost use Rattle.std.specs.Prelude.{◌≡◌};
 ghost use Rattle.samr_level.specs.RefOrders.{ref_cmp, edge_cmp, in_order};
 

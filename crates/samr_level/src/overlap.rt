@@ -1,3 +1,5 @@
+//! All overlaps of two whole levels, by a look at each pair of boxes.
+
 ghost use Rattle.std.specs.Prelude.{◌≡◌, ◌++◌, IfOk, OnOk, map, filter};
 ghost use Rattle.std.specs.List.{flat_map};
 ghost use Rattle.samr_box.specs.Vector.{InRange};

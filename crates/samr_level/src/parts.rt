@@ -1,3 +1,5 @@
+//! What one rank has of a level: its boxes, its connectors, and what becomes of boxes.
+
 ghost use Rattle.std.specs.Prelude.{◌≡◌, ◌++◌, IfOk, OnOk, map, filter, not, nat_eq};
 ghost use Rattle.samr_level.specs.Pairs.{peers};
 

@@ -1,3 +1,5 @@
+//! Boxes with their owners, and the edges between them.
+
 ghost use Rattle.std.specs.Prelude.{◌≡◌, ◌↔◌, List};
 ghost use Rattle.samr_box.specs.declared.vector.IVec.{IVec};
 ghost use Rattle.samr_box.specs.Space.{Space};

@@ -1,3 +1,5 @@
+//! The domain of a level: a whole frame, or some parts of it.
+
 ghost use Rattle.std.specs.Prelude.{◌≡◌, ◌↔◌, List, [], map, IsTrue, IfOk, IfSome, IsSome};
 ghost use Rattle.std.specs.List.{All};
 ghost use Rattle.samr_box.specs.Vector.{IsRatio, InRange};

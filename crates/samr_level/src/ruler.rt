@@ -1,3 +1,5 @@
+//! How boxes of two levels are compared at a width.
+
 ghost use Rattle.std.specs.Prelude.{◌≡◌, ◌↔◌, pos, IsTrue};
 ghost use Rattle.samr_box.specs.declared.vector.IVec.{IVec};
 ghost use Rattle.samr_box.specs.Vector.{alike, AtMost, Within, InRange, IsRatio};

@@ -1,3 +1,5 @@
+//! The shifts at which a box has images.
+
 ghost use Rattle.std.specs.Prelude.{◌≡◌, ◌++◌, ◌∷◌, [], negsuc, pos, IfOk, if◌then◌else◌};
 ghost use Rattle.std.specs.List.{flat_map};
 ghost use Rattle.samr_box.specs.Vector.{put};

@@ -1,3 +1,5 @@
+//! Widths in cells of a finer and of a coarser level.
+
 ghost use Rattle.std.specs.Prelude.{◌≡◌};
 ghost use Rattle.samr_box.specs.declared.vector.IVec.{IVec};
 ghost use Rattle.samr_box.specs.Vector.{AtMost, times, InRange};

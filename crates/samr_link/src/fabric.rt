@@ -1,4 +1,5 @@
 //! What makes the ends of a run's ranks.
+
 ghost use Rattle.std.specs.Prelude.{◌≡◌, ◌<◌, ℕ, List, length, Bool, true, false, All, IfOk, OnOk, OnErr};
 ghost use Rattle.samr_link.specs.Ends.{Making, AreEnds, IsFresh, AreJournals};
 ghost use Rattle.samr_link.specs.Names.{sent_by, Begins};

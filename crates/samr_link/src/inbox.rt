@@ -1,4 +1,5 @@
 //! One inbox: a queue of letters that many threads post into and one takes from.
+
 ghost use Rattle.std.specs.Prelude.{◌≡◌, ◌<◌, [], ◌∷◌, ◌++◌, ℕ, true, false, length, slice_index_or, IfOk, OnOk, IfErr, OnErr, IfSome, IfNone};
 ghost use Rattle.crossbeam_queue.specs.Fifo.{Held};
 ghost use Rattle.crossbeam_queue.specs.Passes.{view, IsPassOf, IsSamePass, ruled_capacity};

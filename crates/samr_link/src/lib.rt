@@ -13,8 +13,6 @@ mod queue;
 mod queue_end;
 mod settling;
 mod sleepers;
-#[cfg(test)]
-mod tests;
 
 pub use fabric::Fabric;
 pub use inbox::ROOM;

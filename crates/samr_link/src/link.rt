@@ -1,4 +1,5 @@
 //! What a rank posts and takes letters by.
+
 ghost use Rattle.std.specs.Prelude.{◌≡◌, ◌<◌, ℕ, List, [], ◌∷◌, ◌++◌, Bool, true, IfOk, OnOk, IfErr, OnErr, IfSome, IfNone};
 ghost use Rattle.crossbeam_queue.specs.Fifo.{Held};
 ghost use Rattle.samr_link.specs.Ends.{Making, IsSameEnd};

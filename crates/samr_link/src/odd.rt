@@ -1,4 +1,5 @@
 //! A fabric that hands letters out in odd ways.
+
 ghost use Rattle.std.specs.Prelude.{◌≡◌, ◌<◌, ◌≤◌, ℕ, [], length, map, true, false, not, is_some, unwrap_or};
 ghost use Rattle.std.specs.Vec.{vec_capacity};
 ghost use Rattle.samr_link.specs.Ends.{AreEnds, AreJournals};

@@ -1,4 +1,5 @@
 //! The end of one rank that hands letters out in odd ways.
+
 ghost use Rattle.std.specs.Prelude.{◌≡◌, length, IfNone};
 ghost use Rattle.crossbeam_queue.specs.Fifo.{Held};
 ghost use Rattle.samr_link.specs.Inbox.{IsSeen};

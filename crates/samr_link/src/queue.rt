@@ -1,4 +1,5 @@
 //! A fabric of queues, one for the inbox of each rank.
+
 ghost use Rattle.std.specs.Prelude.{◌≡◌, ◌<◌, ℕ, [], length, true, not, is_some, unwrap_or, None};
 ghost use Rattle.samr_link.specs.Ends.{AreEnds, AreJournals};
 ghost use Rattle.samr_link.specs.Names.{sent_by, Begins};

@@ -1,4 +1,5 @@
 //! The end of one rank over queues, one for the inbox of each rank.
+
 ghost use Rattle.std.specs.Prelude.{◌≡◌, ◌<◌, ◌==◌, ℕ, [], ◌∷◌, ◌++◌, length, slice_index_or, if◌then◌else◌, OnOk, IfErr, OnErr, IfSome, IfNone};
 ghost use Rattle.crossbeam_queue.specs.Fifo.{Held};
 ghost use Rattle.samr_link.specs.Inbox.{IsSeen};

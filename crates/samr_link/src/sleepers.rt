@@ -1,4 +1,5 @@
 //! Where ranks sleep while no letter comes.
+
 use crossbeam_utils::sync::EventCount;
 use std::alloc::{AllocError as NoMemory, Global};
 use std::sync::Wait;

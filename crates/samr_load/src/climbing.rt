@@ -1,3 +1,5 @@
+//! The step of a rank up the tree: what it keeps, and what it gives its parent or asks of it.
+
 ghost use Rattle.std.specs.Prelude.{◌≡◌, ◌<◌, ◌^◌, pos, ◌≤ℤ◌, unsigned_abs, IfOk};
 ghost use Rattle.samr_load.specs.Pieces.{load};
 ghost use Rattle.samr_load.specs.Ascent.{climb};

@@ -1,3 +1,5 @@
+//! The step of a rank down the tree: what it gives its children, and what is left.
+
 ghost use Rattle.std.specs.Prelude.{◌≡◌, ◌<◌, ◌^◌, pos, ◌≤ℤ◌, unsigned_abs, IfOk};
 ghost use Rattle.samr_load.specs.Pieces.{load};
 ghost use Rattle.samr_load.specs.Descent.{fall};

@@ -1,3 +1,5 @@
+//! The laws of the balance, each as the contract of a function without a body to speak of.
+
 ghost use Rattle.samr_load.specs.Laws.{CellsAreKept, LevelIsKept, TakesFallShort, LoadsAreBounded, QuotasAddUp};
 ghost use Rattle.samr_load.specs.LevelLaws.{LevelsStayLevels};
 

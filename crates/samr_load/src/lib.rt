@@ -21,6 +21,3 @@ pub use pieces::{Piece, in_piece_order, is_countable, load};
 pub use plain::balance_all;
 pub use quotas::quota;
 pub use taking::{Taken, take};
-
-#[cfg(test)]
-mod tests;

@@ -1,3 +1,5 @@
+//! Pieces of boxes, their order, and how many cells they have.
+
 ghost use Rattle.std.specs.Prelude.{◌≡◌, ◌↔◌, ◌<◌, ◌^◌, IsTrue};
 ghost use Rattle.samr_load.specs.Pieces.{size_of, load, piece_cmp, sorted};
 

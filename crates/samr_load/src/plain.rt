@@ -1,3 +1,5 @@
+//! The balance of all ranks as a plain and slow program.
+
 ghost use Rattle.std.specs.Prelude.{◌≡◌, ◌++◌, ◌%◌, ◌<◌, ◌^◌, pos, ◌≤ℤ◌, unsigned_abs, nat_eq, if◌then◌else◌, map, IfOk, All};
 ghost use Rattle.std.specs.List.{range_with_len};
 ghost use Rattle.std.specs.Option.{ForSome};

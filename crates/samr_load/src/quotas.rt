@@ -1,3 +1,5 @@
+//! How many cells each rank shall have.
+
 ghost use Rattle.std.specs.Prelude.{◌≡◌, ◌<◌, ◌≤◌, ◌*◌, ◌/◌};
 ghost use Rattle.samr_load.specs.Balanced.{quota_of};
 

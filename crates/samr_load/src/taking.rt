@@ -1,3 +1,5 @@
+//! Taking at most so many cells from a list of pieces.
+
 ghost use Rattle.std.specs.Prelude.{◌≡◌, ◌++◌, ◌+◌, ◌<◌, ◌^◌, pos, ◌≤ℤ◌, unsigned_abs, IfOk, All};
 ghost use Rattle.samr_box.specs.Corners.{IsBox};
 ghost use Rattle.samr_load.specs.Pieces.{size_of, load};

@@ -29,9 +29,9 @@ use Rattle.samr_problem.specs.Problems.{IsProblem, SuitsParts}
 use Rattle.samr_problem.specs.Values.{axes_within, is_within}
 use Rattle.samr_mesh.specs.Domains.{area_of, step_of, ratio_to, area_at, frame_at, tile_of, roots_at}
 use Rattle.samr_mesh.specs.Grounds.{HasDomain, CanPass, HasLevel0}
-use Rattle.samr_mesh.specs.Roots.{AreRoots}
+use Rattle.samr_rounds.specs.Roots.{AreRoots}
 use Rattle.samr_mesh.proofs.Regions.{le_true, members_pass, has_level0}
-use Rattle.samr_mesh.proofs.Rooting.{blocks_are_roots, alone_is_root}
+use Rattle.samr_rounds.proofs.Rooting.{blocks_are_roots, alone_is_root}
 
 pub within_of : (low high z : ℤ) → is_within low high z ≡ true → (low ≤ℤ z) × (z ≤ℤ high)
 unfolding is_within

@@ -1,11 +1,8 @@
-pub mod Refining
-pub mod Chopped
-pub mod CutLevels
-pub mod Rooting
 pub mod Level0Bounds
 pub mod Regions
 pub mod Grounding
 pub mod Scaling
+pub mod TagTests
 pub mod Passing
 pub mod Covers
 pub mod Meshing
@@ -14,7 +11,6 @@ pub mod SameMeshes
 pub mod Holes
 pub mod RowProofs
 pub mod Tagged
-pub mod RefinedLinks
 pub mod CellBounds
 pub mod Sourced
 pub mod PassListing

@@ -11,7 +11,7 @@ use Rattle.samr_level.specs.Blocks.{level0}
 use Rattle.samr_level.proofs.Level0Laws.{IsLevel-level0}
 use Rattle.samr_problem.specs.Fields.{Fields}
 use Rattle.samr_problem.specs.Problems.{IsProblem}
-use Rattle.samr_mesh.specs.Cutting.{IsDeep}
+use Rattle.samr_nest.specs.CutLevels.{IsDeep}
 use Rattle.samr_mesh.specs.Domains.{area_of, level0_of, step_of, area_at}
 use Rattle.samr_mesh.specs.Grounds.{CanPass}
 use Rattle.samr_mesh.specs.Meshes.{stacked, lowest, grown_over, renewed_over, regridded, is_due, stepped, mesh_from, first_mesh, mesh}

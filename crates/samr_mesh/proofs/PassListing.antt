@@ -17,7 +17,7 @@ use Rattle.samr_mesh.specs.Grounds.{CanPass}
 use Rattle.samr_mesh.specs.Meshes.{stacked, lowest, grown_over, renewed_over, made_over, has_boxes, stepped, mesh_from, mesh}
 use Rattle.samr_mesh.specs.PassLists.{passes_over, passes_of, if_boxes, passes_up, first_passes, AllRun, AreLinked}
 use Rattle.samr_mesh.specs.Passes.{Pass, cut_level, pieces_of, new_level}
-use Rattle.samr_mesh.specs.Refined.{refined_box, refined_level}
+use Rattle.samr_level.specs.Refined.{refined_box, refined_level}
 use Rattle.samr_mesh.specs.Soundness.{CanRun}
 use Rattle.samr_mesh.specs.Stages.{IsAbove}
 use Rattle.samr_mesh.proofs.Grounding.{can_pass}

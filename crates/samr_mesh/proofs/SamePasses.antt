@@ -1,5 +1,5 @@
 -- Passes over levels with the same cells, on different ranks, make levels with the same cells.
-use Rattle.std.proofs.Common.{◌≡◌, ℕ, refl, sym, subst, inl, inr}
+use Rattle.std.proofs.Common.{◌≡◌, ℕ, refl, sym, subst, ◌∙◌, inl, inr}
 use Rattle.std.proofs.lemmas.Bool.{and_from, and_parts, or_cases, or_left, or_right}
 use Rattle.std.specs.Prelude.{Bool, true, ◌||◌, IsTrue, List, [], ◌∷◌, ◌↔◌}
 use Rattle.samr_box.specs.declared.vector.IVec.{IVec}
@@ -17,12 +17,12 @@ use Rattle.samr_problem.specs.Fields.{Fields}
 use Rattle.samr_rounds.specs.Clusters.{clusters}
 use Rattle.samr_rounds.specs.Owners.{owner_of}
 use Rattle.samr_rounds.proofs.LevelLaws.{level_has}
-use Rattle.samr_tags.specs.Tagging.{in_level, tags_of, IsTagged}
-use Rattle.samr_tags.specs.Covering.{covered}
+use Rattle.samr_tags.specs.Buffer.{in_level, tags_of, IsTagged}
+use Rattle.samr_tags.specs.Cover.{covered}
 use Rattle.samr_tags.proofs.Buffering.{in_level_from, in_level_is, tags_from, tags_is}
-use Rattle.samr_tags.proofs.CoverLaws.{covered_from}
+use Rattle.samr_tags.proofs.CoverStage.{covered_from}
 use std.Path.{fun_ext}
-use Rattle.samr_mesh.specs.Cutting.{IsDeep}
+use Rattle.samr_nest.specs.CutLevels.{IsDeep}
 use Rattle.samr_mesh.specs.Domains.{step_of, area_at, frame_at, roots_at}
 use Rattle.samr_mesh.specs.Passes as passes
 use Rattle.samr_mesh.specs.Passes.{Pass, tagging, tags_in, rule_of, clusters_of, new_level}
@@ -31,6 +31,7 @@ use Rattle.samr_mesh.specs.Stages.{IsAbove}
 use Rattle.samr_mesh.proofs.Covers.{cover_has, from_cover}
 use Rattle.samr_mesh.proofs.Passing.{new_cells}
 use Rattle.samr_mesh.proofs.Stacks.{SameCells}
+use Rattle.samr_mesh.proofs.TagTests.{tags_are}
 
 -- the cells of the clusters are those of the list
 cluster_cells : (p : Fields) (w : Pass) (x : IVec) → IsCellIn (clusters_of p w) x ↔ IsTrue (held x (clusters (tags_in p w) (rule_of p) (roots_at p w.number)))
@@ -97,13 +98,13 @@ module _ (p : Fields) (step l : ℕ) (ranks others : ℕ) (level level' above ab
           subst Covered c.4 (cover_has p (pass others step l level' above') run'.can upper' is' c.0 c.1 ((same_above c.0).0 c.2) c.3)
 
   pub tags_way : (x : IVec) → tags_in p (pass ranks step l level above) x ≡ true → tags_in p (pass others step l level' above') x ≡ true
-  unfolding tags_in
   tags_way x t =
       let w = pass ranks step l level above in
       let v = pass others step l level' above' in
-      let h = and_parts (in_level level x) (tags_of (tagging p w) x || covered (passes.covering p w) x) t in
+      let h = and_parts (in_level level x) (tags_of (tagging p w) x || covered (passes.covering p w) x) (sym (tags_are p w x) ∙ t) in
       let cell = in_level_from level x h.0 in
-      and_from (in_level level' x) (tags_of (tagging p v) x || covered (passes.covering p v) x) (in_level_is level' x ((same x).0 cell))
+      tags_are p v x
+      ∙ and_from (in_level level' x) (tags_of (tagging p v) x || covered (passes.covering p v) x) (in_level_is level' x ((same x).0 cell))
       (elim (or_cases (tags_of (tagging p w) x) (covered (passes.covering p w) x) h.1) [
         | inl tagged ↦ or_left (tags_of (tagging p v) x) (covered (passes.covering p v) x) (one_way x tagged)
         | inr under ↦ or_right (tags_of (tagging p v) x) (covered (passes.covering p v) x) (cover_way x (in_frame x cell) under)

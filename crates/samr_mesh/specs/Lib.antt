@@ -1,7 +1,4 @@
 pub mod Domains
-pub mod Refined
-pub mod Roots
-pub mod Cutting
 pub mod Passes
 pub mod Meshes
 pub mod Grounds

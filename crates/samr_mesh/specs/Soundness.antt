@@ -9,7 +9,7 @@ use Rattle.samr_level.specs.Levels.{IsLevel, IsNested, IsCellIn}
 use Rattle.samr_level.specs.Regions.{IsCellOf}
 use Rattle.samr_problem.specs.Fields.{Fields}
 use Rattle.samr_problem.specs.Problems.{IsProblem}
-use Rattle.samr_mesh.specs.Cutting.{IsDeep}
+use Rattle.samr_nest.specs.CutLevels.{IsDeep}
 use Rattle.samr_mesh.specs.Domains.{level0_of, step_of, area_at, frame_area}
 use Rattle.samr_mesh.specs.Grounds.{CanPass}
 use Rattle.samr_mesh.specs.Meshes.{level_at, renewed_over, regridded, made_over, has_boxes, mesh_from, mesh}

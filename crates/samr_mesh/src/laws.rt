@@ -2,34 +2,12 @@
 //! whole meshes, and rows worked out by computation.
 
 ghost use Rattle.samr_mesh.specs.PassLists.{RegridsArePasses, FirstRegridIsPasses, PassesOfStepsRun, PassesMakeTheMesh, CellsTellLevels, RunsGoOn};
-ghost use Rattle.samr_mesh.specs.Refined.{RefinedLevelsAreLevels, RefinedTwice, OverlapsAreRefined};
-ghost use Rattle.samr_mesh.specs.Cutting.{CutsMakeALevel};
 ghost use Rattle.samr_mesh.specs.Grounds.{ProblemsHaveDomains, ProblemsCanPass, ProblemsHaveLevel0};
 ghost use Rattle.samr_mesh.specs.Independence.{CellsStayTheSame, RanksDoNotMatter};
-ghost use Rattle.samr_mesh.specs.Roots.{BlocksAreRoots};
 ghost use Rattle.samr_mesh.specs.Rows.{LevelsGoWithTheirShape, TwoRanksShareALevel, CoverKeepsTheFinest, OverParts, Drifting};
 ghost use Rattle.samr_mesh.specs.Sources.{GhostsFit, GhostsLieOver, Level0HasAll};
 ghost use Rattle.samr_mesh.specs.Stages.{TagsCanBeMade, CoversCanBeMade, LevelsHaveFewCells, RulesAreOne};
 ghost use Rattle.samr_mesh.specs.Soundness.{PassesAreSound, TagsAreRefined, CoversKeepNesting, NoLevelIsLost, MeshesHaveLevels, MeshesStayMeshes, FreshMeshesAreMeshes, RegridsLieOver, NoHoles};
-
-/// A level, refined, is a level of the finer domain, and has exactly the cells over its own. Refining twice is refining
-/// by the product, and refining one of two levels refines the boxes in their overlaps and changes nothing else.
-pub fn refined_levels_are_levels()
-    ensures levels { RefinedLevelsAreLevels }
-    ensures twice { RefinedTwice }
-    ensures overlaps { OverlapsAreRefined }
-{}
-
-/// What the nest cut leaves of a level of clusters is a level, and has exactly those of their cells about which all
-/// cells of the domain within the nest width lie in the tag level.
-pub fn cuts_make_a_level()
-    ensures { CutsMakeALevel }
-{}
-
-/// The blocks of a box have its cells, each once, and their cells can be counted.
-pub fn blocks_are_roots()
-    ensures { BlocksAreRoots }
-{}
 
 /// Each level that an accepted problem may have has a domain; a pass can be made over each but the finest; level 0 can
 /// be cut into blocks. A level has at most 4,194,304 cells, and there is one cut rule with the problem's numbers.

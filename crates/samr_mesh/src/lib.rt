@@ -8,7 +8,6 @@
 mod laws;
 
 pub use laws::{
-    blocks_are_roots, covers_keep_nesting, cuts_make_a_level, ghosts_have_sources,
-    meshes_are_sound, passes_are_sound, problems_have_domains, ranks_do_not_matter,
-    refined_levels_are_levels, regrids_are_passes, regrids_lie_over, worked_rows,
+    covers_keep_nesting, ghosts_have_sources, meshes_are_sound, passes_are_sound,
+    problems_have_domains, ranks_do_not_matter, regrids_are_passes, regrids_lie_over, worked_rows,
 };

@@ -31,7 +31,7 @@ use Rattle.samr_problem.specs.Problems.{IsProblem}
 use Rattle.samr_problem.specs.Values.{is_within}
 use Rattle.samr_mesh.specs.Domains.{step_of, area_at, frame_at}
 use Rattle.samr_mesh.specs.Passes.{Pass, clusters_of, cuts_of, cut_level, pieces_of, new_level}
-use Rattle.samr_mesh.specs.Refined.{refined_box}
+use Rattle.samr_level.specs.Refined.{refined_box}
 use Rattle.samr_mesh.proofs.CellBounds.{few_cells}
 use Rattle.samr_mesh.proofs.Passing.{in_frame, cluster_home, cluster_room, cluster_box, cut_are, passed}
 use Rattle.samr_mesh.proofs.Regions.{le_true}

@@ -6,13 +6,13 @@ use Rattle.samr_box.specs.declared.vector.IVec.{IVec}
 use Rattle.samr_box.specs.Corners.{Corners, holds}
 use Rattle.samr_boxlist.specs.Covers.{held}
 use Rattle.samr_level.specs.Refs.{Owned}
-use Rattle.samr_level.specs.Levels.{own}
-use Rattle.samr_rounds.specs.Owners.{own_boxes, own_tags}
+use Rattle.samr_level.specs.Levels.{own, own_boxes}
+use Rattle.samr_rounds.specs.Owners.{own_tags}
 use Rattle.samr_rounds.proofs.Lists.{any_map}
 use Rattle.samr_mesh_plain.proofs.CellFields.{any_filter}
 
 own_cells : (level : List Owned) (rank : ℕ) (x : IVec) → held x (own_boxes rank level) ≡ list_any (λ b. nat_eq b.owner rank && holds b.bx x) level
-unfolding own_boxes own
+unfolding own
 own_cells level rank x =
     any_map (λ (c : Corners). holds c x) (λ (b : Owned). b.bx) (own rank level)
     ∙ any_filter (λ (b : Owned). holds b.bx x) (λ (b : Owned). nat_eq b.owner rank) level

@@ -22,8 +22,8 @@ use Rattle.samr_nest.proofs.StayLaws.{cell_of_frame}
 use Rattle.samr_problem.specs.Fields.{Fields}
 use Rattle.samr_problem.specs.Problems.{IsProblem}
 use Rattle.samr_sign.specs.Counts.{tally}
-use Rattle.samr_tags.specs.Tagging.{in_level, is_shaped, some_near, tags_of}
-use Rattle.samr_tags.specs.Covering.{covering, cover_tags, covered}
+use Rattle.samr_tags.specs.Buffer.{in_level, is_shaped, some_near, tags_of}
+use Rattle.samr_tags.specs.Cover.{covering, covered}
 use Rattle.samr_tags.proofs.Buffering.{in_level_from}
 use Rattle.samr_mesh.specs.Domains.{step_of, area_at, frame_at}
 use Rattle.samr_mesh.specs.Grounds.{HasDomain}
@@ -35,6 +35,7 @@ use Rattle.samr_mesh.proofs.Covers.{cell_above, frame_above}
 use Rattle.samr_mesh.proofs.Grounding.{can_pass}
 use Rattle.samr_mesh.proofs.Passing.{in_frame, frame_cell, level_cell}
 use Rattle.samr_mesh.proofs.Scaling.{nest_above, width_at, space_of}
+use Rattle.samr_mesh.proofs.TagTests.{tags_are}
 use Rattle.samr_mesh_plain.specs.Making.{one_cell, CanMake, covers}
 use Rattle.samr_mesh_plain.proofs.CellFields.{same_tally, same_place}
 use Rattle.samr_mesh_plain.proofs.LevelFacts.{can_run, cell_is_box}
@@ -85,16 +86,15 @@ near_is p w x f is can t e =
 
 -- the tests one after another
 pub no_cell : (p : Fields) (w : Pass) (x : IVec) → in_level w.level x ≡ false → false ≡ tags_in p w x
-unfolding tags_in
-no_cell p w x e = sym (ap (λ v. v && cover_tags (passes.covering p w) x) e)
+no_cell p w x e = sym (tags_are p w x ∙ ap (λ v. v && (tags_of (tagging p w) x || covered (passes.covering p w) x)) e)
 
 pub near_tag : (p : Fields) (w : Pass) (x : IVec) → in_level w.level x ≡ true → some_near (is_shaped (tagging p w)) p.tag_buffer x ≡ true → true ≡ tags_in p w x
-unfolding tags_in tags_of
-near_tag p w x e f = sym (ap (λ v. v && ((v && some_near (is_shaped (tagging p w)) p.tag_buffer x) || covered (passes.covering p w) x)) e ∙ ap (λ v. v || covered (passes.covering p w) x) f)
+unfolding tags_of
+near_tag p w x e f = sym (tags_are p w x ∙ ap (λ v. v && ((v && some_near (is_shaped (tagging p w)) p.tag_buffer x) || covered (passes.covering p w) x)) e ∙ ap (λ v. v || covered (passes.covering p w) x) f)
 
 pub cover_tag : (p : Fields) (w : Pass) (x : IVec) (c : Bool) → in_level w.level x ≡ true → some_near (is_shaped (tagging p w)) p.tag_buffer x ≡ false → c ≡ covered (passes.covering p w) x → c ≡ tags_in p w x
-unfolding tags_in tags_of
-cover_tag p w x c e f g = g ∙ sym (ap (λ v. v && ((v && some_near (is_shaped (tagging p w)) p.tag_buffer x) || covered (passes.covering p w) x)) e ∙ ap (λ v. v || covered (passes.covering p w) x) f)
+unfolding tags_of
+cover_tag p w x c e f g = g ∙ sym (tags_are p w x ∙ ap (λ v. v && ((v && some_near (is_shaped (tagging p w)) p.tag_buffer x) || covered (passes.covering p w) x)) e ∙ ap (λ v. v || covered (passes.covering p w) x) f)
 
 -- what a box of the new level two above needs is a box on the way
 needed_box : (p : Fields) (w : Pass) (b : Owned) → IsProblem p → CanMake p w → Member b w.above → IsBox (grown (coarsened b.bx (step_of p (suc w.number))) p.nest)
@@ -146,9 +146,8 @@ covered_is p w x fine result e f = f ∙ ap (λ (l : List Owned). list_any (cove
 
 -- all tags lie in the frame
 pub framed : (p : Fields) (w : Pass) (x : IVec) (frame : Corners) → IsProblem p → CanMake p w → frame ≡ whole (frame_at p w.number) → (holds frame x && tags_in p w x) ≡ tags_in p w x
-unfolding tags_in
 framed p w x frame is can e =
     same_test (holds frame x && tags_in p w x) (tags_in p w x) (λ h. (and_parts (holds frame x) (tags_in p w x) h).1)
     (λ h.
-    let home = cell_home p w x is can (and_parts (in_level w.level x) _ h).0 in
+    let home = cell_home p w x is can (and_parts (in_level w.level x) _ (sym (tags_are p w x) ∙ h)).0 in
     and_from (holds frame x) (tags_in p w x) (holds-from (subst (λ (b : Corners). Holds b x) (sym e) home)) h)

@@ -8,7 +8,7 @@ use Rattle.samr_level.specs.Refs.{Owned}
 use Rattle.samr_level.specs.Levels.{IsLevel}
 use Rattle.samr_level.specs.Overlaps.{shifts}
 use Rattle.samr_problem.specs.Fields.{Fields}
-use Rattle.samr_tags.specs.Covering.{covering}
+use Rattle.samr_tags.specs.Cover.{covering}
 use Rattle.samr_mesh.specs.Domains.{step_of, area_at, frame_at}
 use Rattle.samr_mesh.specs.Passes.{Pass}
 use Rattle.samr_mesh.specs.Soundness.{IsOver}

@@ -7,7 +7,7 @@ ghost use Rattle.samr_box.specs.Ratios.{coarsened};
 ghost use Rattle.samr_box.specs.Space.{image};
 ghost use Rattle.samr_box.specs.Lists.{Member};
 ghost use Rattle.samr_level.specs.Overlaps.{shifts as all_shifts};
-ghost use Rattle.samr_tags.specs.Covering.{covering, covered};
+ghost use Rattle.samr_tags.specs.Cover.{covering, covered};
 ghost use Rattle.samr_mesh.specs.Passes.{covering as covering_of};
 ghost use Rattle.samr_mesh_plain.specs.Making.{CanMake, covers};
 
@@ -78,7 +78,7 @@ fn some_covers(problem: &Problem, w: &Pass, fine: &[BoxRef], shifts: &[Shift], x
 }
 
 /// Whether a cell lies in an image of what any box of the new level two above needs.
-#[tactic(auto, unfolding(samr_tags::specs::Covering::covered))]
+#[tactic(auto, unfolding(samr_tags::specs::Cover::covered))]
 pub(crate) fn is_covered(problem: &Problem, w: &Pass, shifts: &[Shift], x: IVec) -> bool
     requires can { CanMake problem.now w.now }
     requires shifts { shifts.now ≡ all_shifts problem.now.periodic }

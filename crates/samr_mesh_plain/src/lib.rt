@@ -24,6 +24,3 @@ mod tagged;
 
 pub use mesh::mesh_of;
 pub use rooting::roots;
-
-#[cfg(test)]
-mod tests;

@@ -4,7 +4,7 @@ ghost use Rattle.std.specs.Prelude.{◌≡◌, IfOk};
 ghost use Rattle.std.specs.List.{All};
 ghost use Rattle.samr_box.specs.Corners.{IsBox};
 ghost use Rattle.samr_box.specs.Ratios.{refined};
-ghost use Rattle.samr_mesh.specs.Refined.{refined_box, refined_level};
+ghost use Rattle.samr_level.specs.Refined.{refined_box, refined_level};
 
 use samr_box::{Ratio, refine};
 use samr_level::BoxRef;

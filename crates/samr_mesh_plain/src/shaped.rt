@@ -5,7 +5,7 @@ ghost use Rattle.samr_box.specs.declared.vector.IVec.{IVec as Cell};
 ghost use Rattle.samr_box.specs.Corners.{Holds, holds, grown};
 ghost use Rattle.samr_box.specs.Space.{whole};
 ghost use Rattle.samr_sign.specs.Fields.{tagged};
-ghost use Rattle.samr_tags.specs.Tagging.{in_level, is_shaped};
+ghost use Rattle.samr_tags.specs.Buffer.{in_level, is_shaped};
 ghost use Rattle.samr_mesh.specs.Domains.{frame_at};
 ghost use Rattle.samr_mesh.specs.Passes.{shape_at, tagging};
 ghost use Rattle.samr_mesh_plain.specs.Making.{CanMake};

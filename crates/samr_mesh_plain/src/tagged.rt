@@ -7,7 +7,7 @@ ghost use Rattle.samr_box.specs.Space.{whole};
 ghost use Rattle.samr_level.specs.Overlaps.{shifts as all_shifts};
 ghost use Rattle.samr_sign.specs.Counts.{tally};
 ghost use Rattle.samr_sign.specs.Fields.{tagged};
-ghost use Rattle.samr_tags.specs.Tagging.{is_shaped};
+ghost use Rattle.samr_tags.specs.Buffer.{is_shaped};
 ghost use Rattle.samr_mesh.specs.Domains.{frame_at};
 ghost use Rattle.samr_mesh.specs.Passes.{tagging, tags_in};
 ghost use Rattle.samr_mesh_plain.specs.Making.{CanMake, one_cell};

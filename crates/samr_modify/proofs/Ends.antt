@@ -18,14 +18,14 @@ use Rattle.samr_level.proofs.RefLaws.{edge_total, same_from_edge_cmp}
 use Rattle.samr_level.proofs.Sorting.{Member-in_order, Member-from_in_order, sorted-in_order}
 use Rattle.samr_level.proofs.Overlapping.{connector_is}
 use Rattle.samr_modify.specs.declared.entries.Replaced.{Replaced}
-use Rattle.samr_modify.specs.Modifying.{Modifying, IsModifying, IsOwned, news_of, forth_scale, back_scale, old_pair, modify_pair}
+use Rattle.samr_modify.specs.Modify.{Modifying, IsModifying, IsOwned, news_of, forth_scale, back_scale, old_pair, modify_pair}
 use Rattle.samr_modify.specs.Entries.{entries, all_entries, told_to, shown}
-use Rattle.samr_modify.specs.Rows.{addressed, modify_row}
+use Rattle.samr_modify.specs.ModifyRow.{addressed, modify_row}
 use Rattle.samr_modify.specs.Found.{led_to, led, all_led, taken_by, taken, all_taken}
 use Rattle.samr_modify.proofs.Lists.{Member-range, same_box, same_box-is, from_cond, in_cond, nat_same, nat_is_same}
 use Rattle.samr_modify.proofs.Moves.{in_news, from_news, news_sorted, old_of, whole, whole_back}
 use Rattle.samr_modify.proofs.EntryLaws.{IsKnown, HasEdges, entry_of, in_entries, from_entries, entry_known, entry_edges, shown_known, shown_edges, in_told, from_told, owner_concerns, head_concerns, news_concern, in_backs}
-use Rattle.samr_modify.proofs.RowLaws.{forths, in_forths, from_forths, turn_forth, head_addressed, news_addressed, tells, tells_is}
+use Rattle.samr_modify.proofs.ModifyRowLaws.{forths, in_forths, from_forths, turn_forth, head_addressed, news_addressed, tells, tells_is}
 
 -- edges led to new boxes
 in_led_to : (n : Scale) (e : Link) (b : Owned) (news : List Owned) → Member b news → is_true n (link e.base b e.shift) ≡ true → Member (link e.base b e.shift) (led_to n e news)

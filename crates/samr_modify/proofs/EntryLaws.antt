@@ -13,7 +13,7 @@ use Rattle.samr_level.proofs.RefLaws.{ref_total, same_from_ref_cmp}
 use Rattle.samr_level.proofs.Sorting.{Member-in_order, Member-from_in_order}
 use Rattle.samr_level.proofs.Overlapping.{Member-overlaps, Member-from_overlaps, Member-of_rank, Member-from_of_rank}
 use Rattle.samr_modify.specs.declared.entries.Replaced.{Replaced}
-use Rattle.samr_modify.specs.Modifying.{Modifying, back_scale, old_pair}
+use Rattle.samr_modify.specs.Modify.{Modifying, back_scale, old_pair}
 use Rattle.samr_modify.specs.Entries.{moves_of, edges_of, entry, entries, owns_one, owns_head, concerns, shown, told_to}
 use Rattle.samr_modify.proofs.Lists.{same_box, same_box-is, any_is, from_cond, nat_same, nat_is_same}
 

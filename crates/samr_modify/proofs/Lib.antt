@@ -2,11 +2,9 @@ pub mod Near
 pub mod Moves
 pub mod Lists
 pub mod EntryLaws
-pub mod RowLaws
+pub mod ModifyRowLaws
 pub mod Ends
-pub mod StageLemmas
+pub mod ModifyStage
 pub mod Lookups
-pub mod AllLemmas
+pub mod ModifyOnAllLaws
 pub mod PieceLaws
-pub mod Ranges
-pub mod Owning

@@ -20,7 +20,7 @@ use Rattle.samr_level.specs.Refs.{Owned}
 use Rattle.samr_level.specs.RefOrders.{ref_cmp}
 use Rattle.samr_level.proofs.RefLaws.{same_nat, ref_total, same_from_ref_cmp}
 use Rattle.samr_level.proofs.Sorting.{Member-in_order, Member-from_in_order, sorted-in_order}
-use Rattle.samr_modify.specs.Rows.{others}
+use Rattle.samr_modify.specs.ModifyRow.{others}
 
 -- the test for two boxes with the same owner
 pub same_box : (a b : Owned) → is_eq (ref_cmp a b) ≡ true → a ≡ b

@@ -14,7 +14,7 @@ use Rattle.samr_level.specs.Overlaps.{near, IsTrueOverlap}
 use Rattle.samr_level.proofs.RefLaws.{ref_total, same_from_ref_cmp}
 use Rattle.samr_level.proofs.Sorting.{Member-in_order, Member-from_in_order, sorted-in_order}
 use Rattle.samr_level.proofs.Reaches.{IsRatio-factor, greatest-ratio, greatest-left, greatest-right}
-use Rattle.samr_modify.specs.Modifying.{Modifying, IsModifying, news_of, forth_scale, back_scale, TakesPlace, IsKept, LiesIn}
+use Rattle.samr_modify.specs.Modify.{Modifying, IsModifying, news_of, forth_scale, back_scale, TakesPlace, IsKept, LiesIn}
 use Rattle.samr_modify.proofs.Near.{near_head, near_base}
 
 pub in_news : (w : Modifying) (m : Move) (n : Owned) → Member m w.moves → Member n m.news → Member n (news_of w)

@@ -10,7 +10,7 @@ use Rattle.samr_box.specs.Space.{image}
 use Rattle.samr_box.proofs.Products.{mul_le}
 use Rattle.samr_box.proofs.CellSets.{meets-from, Meet-test}
 use Rattle.samr_level.specs.Overlaps.{Scale, near}
-use Rattle.samr_modify.specs.Modifying.{LiesIn}
+use Rattle.samr_modify.specs.Modify.{LiesIn}
 
 up : (r a b : ℤ) → pos 1 ≤ℤ r → a ≤ℤ b → (a *ℤ r) ≤ℤ (b *ℤ r)
 up r a b p h = mul_le r a b (omega (arith, ints)) h

@@ -1,9 +1,6 @@
 -- The new boxes of a rank, in the order of the moves, are its new boxes.
-use Rattle.std.proofs.Common.{◌≡◌, ℕ, ◌<◌, refl, sym, ap, subst, ◌∙◌, arith, inl, inr, Some, slice_get}
-use Rattle.std.proofs.lemmas.Option.{slice_get_cases, get_or_from_slice_get}
-use Rattle.std.proofs.lemmas.List.FromFn.{length-map-range_with_len, get_or-map-range_with_len}
-use Rattle.std.specs.Prelude.{List, map, nat_eq}
-use Rattle.std.specs.List.{range_with_len}
+use Rattle.std.proofs.Common.{◌≡◌, ℕ, refl, sym, ap, subst}
+use Rattle.std.specs.Prelude.{map, nat_eq}
 use Rattle.samr_box.specs.Lists.{Member}
 use Rattle.samr_box.proofs.Members.{Member-map, Member-from_map, Member-flat_map, Member-from_flat_map, Member-filter, Member-from_filter}
 use Rattle.samr_level.specs.declared.parts.Move.{Move}
@@ -11,8 +8,8 @@ use Rattle.samr_level.specs.Refs.{Owned}
 use Rattle.samr_level.specs.Levels.{own}
 use Rattle.samr_level.proofs.RefLaws.{same_owned}
 use Rattle.samr_modify.specs.Pieces.{Piece, piece, pieces_of}
-use Rattle.samr_modify.specs.Modifying.{Modifying}
-use Rattle.samr_modify.specs.Parts.{IsPiece, ArePieces}
+use Rattle.samr_modify.specs.Modify.{Modifying}
+use Rattle.samr_modify.specs.ModifyParts.{IsPiece, ArePieces}
 use Rattle.samr_modify.proofs.Lists.{nat_same, nat_is_same}
 
 -- a box of a rank
@@ -40,19 +37,3 @@ all w rank p (m, q, o, h) =
 
 pub pieces_are : (w : Modifying) (rank : ℕ) → ArePieces w rank (pieces_of rank w.moves)
 pieces_are w rank = record { only = only w rank; all = all w rank }
-
--- those of all ranks, in order of rank
-pub all_pieces_are : (w : Modifying) (pieces : List (List Piece)) → pieces ≡ map (λ rank. pieces_of rank w.moves) (range_with_len 0 w.ranks)
-    → (rank : ℕ) (own : List Piece) → slice_get pieces rank ≡ Some own → ArePieces w rank own
-all_pieces_are w pieces is rank own got =
-    let xs = map (λ rank. pieces_of rank w.moves) (range_with_len 0 w.ranks) in
-    let there : slice_get xs rank ≡ Some own = ap (λ (l : List (List Piece)). slice_get l rank) (sym is) ∙ got in
-    let count = length-map-range_with_len (λ rank. pieces_of rank w.moves) 0 w.ranks in
-    elim (slice_get_cases xs rank).1 [
-      | inl (x, within, here, same) ↦
-          let below : rank < w.ranks = omega (arith, count, within) in
-          let e : own ≡ pieces_of rank w.moves =
-          sym (get_or_from_slice_get xs rank own own there) ∙ get_or-map-range_with_len (λ rank. pieces_of rank w.moves) 0 w.ranks rank rank own below (omega arith) in
-          subst (λ (l : List Piece). ArePieces w rank l) (sym e) (pieces_are w rank)
-      | inr (past, none) ↦ absurd (let e = sym none ∙ there in cc)
-    ]

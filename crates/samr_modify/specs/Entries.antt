@@ -6,7 +6,7 @@ use Rattle.samr_level.specs.declared.parts.Move.{Move}
 use Rattle.samr_level.specs.Refs.{Owned, Link}
 use Rattle.samr_level.specs.RefOrders.{ref_cmp, in_order}
 use Rattle.samr_modify.specs.declared.entries.Replaced.{Replaced}
-use Rattle.samr_modify.specs.Modifying.{Modifying, old_pair}
+use Rattle.samr_modify.specs.Modify.{Modifying, old_pair}
 
 -- the moves of the old boxes that a rank owns
 unfoldable pub moves_of : ℕ → List Move → List Move

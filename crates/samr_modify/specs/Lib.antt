@@ -1,7 +1,7 @@
 pub mod Pieces
-pub mod Modifying
+pub mod Modify
 pub mod Entries
-pub mod Rows
-pub mod Parts
+pub mod ModifyRow
+pub mod ModifyParts
 pub mod Found
 pub mod StageLaws

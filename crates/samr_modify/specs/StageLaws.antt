@@ -4,9 +4,9 @@ use Rattle.std.proofs.Common.{arith}
 use Rattle.std.proofs.lemmas.Bool.{and_parts, ltb-true}
 use Rattle.std.proofs.lemmas.Bool.Decides.{nat_tests}
 use Rattle.samr_modify.specs.declared.entries.Replaced.{Replaced}
-use Rattle.samr_modify.specs.Modifying.{Modifying}
+use Rattle.samr_modify.specs.Modify.{Modifying}
 use Rattle.samr_modify.specs.Entries.{entries, told_to}
-use Rattle.samr_modify.specs.Rows.{addressed, is_among, modify_row}
+use Rattle.samr_modify.specs.ModifyRow.{addressed, is_among, modify_row}
 
 passes : (t : Bool) (body : List Replaced) → IsTrue (is_some (cond t (Some body) None)) → t ≡ true
 passes true body h = refl

@@ -1,3 +1,5 @@
+//! New boxes with the owners of their old ones, and old boxes with what takes their places.
+
 use samr_box::{IBox, Listed};
 use samr_level::{BoxRef, Edge};
 use std::marker::Model;

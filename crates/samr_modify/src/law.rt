@@ -1,13 +1,15 @@
+//! The law of modifying.
+
 ghost use Rattle.std.specs.Prelude.{◌≡◌, ◌↔◌, ℕ, true};
 ghost use Rattle.samr_box.specs.declared.vector.IVec.{IVec};
 ghost use Rattle.samr_level.specs.Refs.{Owned, link};
 ghost use Rattle.samr_level.specs.RefOrders.{edge_cmp, in_order};
 ghost use Rattle.samr_level.specs.Overlaps.{near, IsTrueOverlap};
-ghost use Rattle.samr_modify.specs.Modifying.{Modifying, IsModifying, TakesPlace, IsKept, forth_scale, back_scale, news_of, old_pair, modify_pair};
+ghost use Rattle.samr_modify.specs.Modify.{Modifying, IsModifying, TakesPlace, IsKept, forth_scale, back_scale, news_of, old_pair, modify_pair};
 ghost use Rattle.samr_modify.specs.Entries.{all_entries};
 ghost use Rattle.samr_modify.specs.Found.{all_led, all_taken};
 ghost use Rattle.samr_modify.specs.Pieces.{pieces_of};
-ghost use Rattle.samr_modify.specs.Parts.{ArePieces};
+ghost use Rattle.samr_modify.specs.ModifyParts.{ArePieces};
 
 /// The law of modifying, which is its contract; nothing runs.
 ///

@@ -1,3 +1,5 @@
+//! What a rank tells another of its old boxes.
+
 ghost use Rattle.std.specs.Prelude.{◌≡◌, ◌++◌, IfOk, OnOk, [], ◌∷◌, map, filter, cond};
 ghost use Rattle.std.specs.List.{flat_map};
 ghost use Rattle.samr_stage.specs.declared.stage.Held.{Held};

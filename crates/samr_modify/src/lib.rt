@@ -5,20 +5,17 @@
 //! boxes, and the owners of the new boxes the anchors. `modify_law` says why nothing is missed.
 #![tactic(auto)]
 
-mod all_ranks;
 mod entries;
 mod known;
 mod law;
 mod leading;
 mod letters;
 mod modify;
+mod modify_on_all;
 mod owners;
 mod taking;
 
-pub use all_ranks::modify_all;
 pub use entries::{NewBox, Replaced};
 pub use law::modify_law;
 pub use modify::Modify;
-
-#[cfg(test)]
-mod tests;
+pub use modify_on_all::modify_all;

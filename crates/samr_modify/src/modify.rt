@@ -1,12 +1,14 @@
+//! The stage of a modification.
+
 ghost use Rattle.std.specs.Prelude.{◌≡◌, ◌++◌, ℕ, IfOk, OnOk, map};
 ghost use Rattle.std.specs.List.{flat_map};
 ghost use Rattle.samr_box.specs.Vector.{InRange, greatest};
 ghost use Rattle.samr_box.specs.Space.{IsSpace, finer};
 ghost use Rattle.samr_stage.specs.declared.stage.Held.{Held};
 ghost use Rattle.samr_stage.specs.Row.{heard, column};
-ghost use Rattle.samr_modify.specs.Modifying.{Modifying, IsModifying, modify_pair};
-ghost use Rattle.samr_modify.specs.Rows.{modify_row};
-ghost use Rattle.samr_modify.specs.Parts.{HasParts, HasEntries};
+ghost use Rattle.samr_modify.specs.Modify.{Modifying, IsModifying, modify_pair};
+ghost use Rattle.samr_modify.specs.ModifyRow.{modify_row};
+ghost use Rattle.samr_modify.specs.ModifyParts.{HasParts, HasEntries};
 ghost use Rattle.samr_modify.specs.StageLaws.{modify_between, heavy};
 
 use crate::entries::{NewBox, Replaced};

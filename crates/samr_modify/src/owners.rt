@@ -1,6 +1,8 @@
+//! The ranks that a rank tells, and those that tell it.
+
 ghost use Rattle.std.specs.Prelude.{◌≡◌, ◌++◌, IfOk, OnOk, map, filter, not, nat_eq};
 ghost use Rattle.std.specs.List.{flat_map};
-ghost use Rattle.samr_modify.specs.Rows.{head_owners, owners, others};
+ghost use Rattle.samr_modify.specs.ModifyRow.{head_owners, owners, others};
 
 use crate::entries::NewBox;
 use samr_level::{BoxRef, Edge, Move};

@@ -1,3 +1,5 @@
+//! Edges of old boxes, taken over by the new boxes in their places.
+
 ghost use Rattle.std.specs.Prelude.{◌≡◌, ◌++◌, IfOk, OnOk};
 ghost use Rattle.std.specs.List.{flat_map};
 ghost use Rattle.samr_level.specs.Refs.{link};

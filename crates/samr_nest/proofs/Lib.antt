@@ -10,4 +10,5 @@ pub mod LeftLaws
 pub mod NewLaws
 pub mod CutLaws
 pub mod Callers
-pub mod RowProofs
+pub mod WorkedProofs
+pub mod CutLevels

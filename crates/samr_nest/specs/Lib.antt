@@ -1,4 +1,5 @@
 pub mod Starts
 pub mod Nested
-pub mod Rows
+pub mod Worked
 pub mod Laws
+pub mod CutLevels

@@ -1,3 +1,5 @@
+//! The nest cut of one cluster.
+
 ghost use Rattle.std.specs.Prelude.{◌≡◌, ◌↔◌, ◌≤ℤ◌, pos, unsigned_abs, IsTrue, IfOk, List, map};
 ghost use Rattle.std.specs.List.{All};
 ghost use Rattle.samr_box.specs.declared.vector.IVec.{IVec};

@@ -1,5 +1,8 @@
-ghost use Rattle.samr_nest.specs.Rows.{AtBothEnds, OverTwoParts};
+//! The laws of the nest cut, each as the contract of a function without a body to speak of.
+
+ghost use Rattle.samr_nest.specs.Worked.{AtBothEnds, OverTwoParts};
 ghost use Rattle.samr_nest.specs.Laws.{StartsInTheFrame, StartsInParts, EdgesOfOneCluster, SmallFramesLeaveRoom};
+ghost use Rattle.samr_nest.specs.CutLevels.{CutsMakeALevel};
 
 /// The law that in a domain without parts the cut begins with the grown cluster, clipped to the frame
 /// on physical axes, and with the cluster itself.
@@ -30,4 +33,10 @@ pub fn small_frames_leave_room()
 pub fn worked_rows()
     ensures at_both_ends { AtBothEnds }
     ensures over_two_parts { OverTwoParts }
+{}
+
+/// What the nest cut leaves of a level of clusters is a level, and has exactly those of their cells about which all
+/// cells of the domain within the nest width lie in the tag level.
+pub fn cuts_make_a_level()
+    ensures { CutsMakeALevel }
 {}

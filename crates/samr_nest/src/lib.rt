@@ -12,11 +12,8 @@ mod starts;
 
 pub use cutting::cut;
 pub use laws::{
-    edges_of_one_cluster, small_frames_leave_room, starts_in_parts, starts_in_the_frame,
-    worked_rows,
+    cuts_make_a_level, edges_of_one_cluster, small_frames_leave_room, starts_in_parts,
+    starts_in_the_frame, worked_rows,
 };
 pub use remains::holes;
 pub use starts::needed;
-
-#[cfg(test)]
-mod tests;

@@ -1,3 +1,5 @@
+//! What of a box the level has not, and what of a cluster lies far from all that.
+
 ghost use Rattle.std.specs.Prelude.{◌≡◌, ℕ, ◌≤◌, pos, List, if◌then◌else◌, IfOk};
 ghost use Rattle.std.specs.List.{filter_map};
 ghost use Rattle.samr_box.specs.declared.vector.IVec.{IVec};

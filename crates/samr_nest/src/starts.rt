@@ -1,3 +1,5 @@
+//! The parts of a box that lie in the domain.
+
 ghost use Rattle.std.specs.Prelude.{◌≡◌, IfOk};
 ghost use Rattle.std.specs.List.{filter_map};
 ghost use Rattle.samr_box.specs.declared.vector.IVec.{IVec};

@@ -2,4 +2,4 @@ pub mod Rules
 pub mod Walks
 pub mod Kept
 pub mod Laws
-pub mod Rows
+pub mod Worked

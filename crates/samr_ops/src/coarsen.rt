@@ -1,3 +1,5 @@
+//! The value of a coarse cell from the values of its fine cells.
+
 ghost use Rattle.std.specs.Prelude.{◌≡◌, ◌<◌, ◌^◌, length, max, fold, sum, slice_index};
 ghost use Rattle.samr_ops.specs.Rules.{coarsened_value};
 

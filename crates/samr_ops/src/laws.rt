@@ -1,5 +1,7 @@
+//! The laws of rules and walks, each as the contract of a function without a body to speak of.
+
 ghost use Rattle.samr_ops.specs.Laws.{GrownCellsAreNear, WalksStayNear, WalksEndInside, WalksStayInside, FixedValuesFit, RefinedValuesFit, UpdatedValuesFit, CoarsenedValuesFit, ClampMovesToTheNearest, ReflectMirrors, MaxIsTheGreatest};
-ghost use Rattle.samr_ops.specs.Rows.{WalksOfRows};
+ghost use Rattle.samr_ops.specs.Worked.{WalksOfRows};
 
 /// The law that the cells of a domain grown by the width are near enough for a walk.
 pub fn grown_cells_are_near()

@@ -18,6 +18,3 @@ pub use laws::{
 };
 pub use rules::{Border, CoarsenRule, Edgewise, RefineRule, Rule, Rules, edge, refined, updated};
 pub use strategy::{Bounds, Refines, Strategy, Updates};
-
-#[cfg(test)]
-mod tests;

@@ -1,3 +1,5 @@
+//! The rules of a field: how values are refined, what stands beyond borders, and updates.
+
 ghost use Rattle.std.specs.Prelude.{◌≡◌, ◌*◌, ◌<◌, ℤ, pos, ◌≤ℤ◌};
 ghost use Rattle.samr_box.specs.Vector.{at};
 ghost use Rattle.samr_ops.specs.Rules.{IsRules, IsOffset, rule_on, refined_value, edge_of, updated_value};

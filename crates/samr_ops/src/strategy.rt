@@ -1,3 +1,5 @@
+//! The rules of a field beside the closures that keep them.
+
 ghost use Rattle.std.specs.Prelude.{◌≡◌, ℕ, ◌*◌, ◌<◌, ℤ, pos, ◌≤ℤ◌};
 ghost use Rattle.samr_box.specs.declared.vector.Axis.{Axis as AxisOf};
 ghost use Rattle.samr_box.specs.declared.vector.IVec.{IVec as Cell};

@@ -1,3 +1,5 @@
+//! The steps of a cell beyond a physical border to the cell inside that it stands for.
+
 ghost use Rattle.std.specs.Prelude.{◌≡◌, pos, ◌≤ℤ◌, true};
 ghost use Rattle.samr_box.specs.Vector.{at};
 ghost use Rattle.samr_box.specs.Space.{leaves};

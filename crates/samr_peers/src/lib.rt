@@ -7,7 +7,4 @@
 
 mod owners;
 
-pub use owners::{other_owners, push_owners};
-
-#[cfg(test)]
-mod tests;
+pub use owners::other_owners;

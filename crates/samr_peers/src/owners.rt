@@ -1,3 +1,5 @@
+//! The other ranks that own a head of some edges.
+
 ghost use Rattle.std.specs.Prelude.{◌≡◌, ◌++◌, nat_eq, not, IfOk, OnOk, map, filter};
 ghost use Rattle.samr_peers.specs.Peers.{other_owners};
 
@@ -5,7 +7,7 @@ use samr_level::Edge;
 use std::alloc::{AllocError as NoMemory, Global};
 
 /// Adds the owners of the heads of edges, but for one rank.
-pub fn push_owners(rank: u16, edges: &[Edge], owners: &mut Vec<u16>) -> Result<(), NoMemory>
+fn push_owners(rank: u16, edges: &[Edge], owners: &mut Vec<u16>) -> Result<(), NoMemory>
     ensures { OnOk result (owners.new.items ≡ owners.old.items ++ filter (λ r. not (nat_eq r rank)) (map (λ e. e.head.owner) edges.now)) }
 {
     for e in edges {

@@ -1,3 +1,5 @@
+//! What the test of a key looks at beside its own value: the whole document, and the key's own table.
+
 ghost use Rattle.std.specs.Prelude.{◌≡◌, map, option_map, IfOk, take};
 ghost use Rattle.std.specs.List.{list_any};
 ghost use Rattle.toml.specs.View.{view, table_view};

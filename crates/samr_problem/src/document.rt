@@ -1,3 +1,5 @@
+//! From a document to the problem that it is, or to its first fault.
+
 ghost use Rattle.std.specs.Prelude.{◌≡◌, None, min};
 ghost use Rattle.std.specs.List.{flat_map};
 ghost use Rattle.toml.specs.View.{table_view};

@@ -1,3 +1,5 @@
+//! The fields of a problem, each from its table.
+
 ghost use Rattle.std.specs.Prelude.{◌≡◌, option_map};
 ghost use Rattle.toml.specs.View.{view, table_view};
 ghost use Rattle.samr_problem.specs.Fields.{init_of, rule_of, border_of, refine_of, coarsen_of, field_of};

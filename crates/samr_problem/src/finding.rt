@@ -1,3 +1,5 @@
+//! The first fault of the keys of a table, and the refusal at its key.
+
 ghost use Rattle.std.specs.Prelude.{◌≡◌, ◌++◌, ℕ, List, map, option_map, string_bytes, IfOk, OnOk};
 ghost use Rattle.std.specs.Fmt.{decimal};
 ghost use Rattle.toml.specs.View.{view, table_view};

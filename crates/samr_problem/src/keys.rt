@@ -1,3 +1,5 @@
+//! The keys of each table: what their values have to be, and in which order their faults are told.
+
 /// What the value of a key has to be.
 #[derive(Clone, Copy)]
 pub enum Kind {

@@ -1,3 +1,5 @@
+//! The lengths of a domain on each level, the cells and boxes in it, and whether it has too many cells.
+
 ghost use Rattle.std.specs.Prelude.{◌≡◌, ◌-◌, ◌*◌, ◌^◌, ◌<◌, nat_lt, unsigned_abs};
 ghost use Rattle.samr_problem.specs.Lengths.{sizes, refined, lengths_of, cells_in, has_plane, has_cell, fits_along, fits_in};
 ghost use Rattle.samr_problem.specs.Capped.{capped, capped_lengths, AreSmall};

@@ -16,8 +16,6 @@ mod ranges;
 mod read;
 mod refusal;
 mod tables;
-#[cfg(test)]
-mod tests;
 mod text;
 mod types;
 mod walk;

@@ -1,3 +1,5 @@
+//! Numbers, truth values, texts, lists and tables of a document, with what stands for one that is not there.
+
 ghost use Rattle.std.specs.Prelude.{◌≡◌, ◌++◌, ◌<◌, option_map, option_to_list, map, IfOk, OnOk};
 ghost use Rattle.toml.specs.Data.{get_member, as_table};
 ghost use Rattle.std.specs.List.{filter_map};

@@ -1,3 +1,5 @@
+//! The probes of a problem, each from its list of numbers.
+
 ghost use Rattle.std.specs.Prelude.{◌≡◌, IfOk, map};
 ghost use Rattle.toml.specs.View.{view};
 ghost use Rattle.samr_problem.specs.Fields.{probe_of};

@@ -1,3 +1,5 @@
+//! The problem that a text is read to.
+
 use crate::{Field, Probe};
 use samr_box::{Flags, IBox, IVec, Listed, Ratio};
 use samr_shape::Shape;

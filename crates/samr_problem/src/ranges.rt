@@ -1,3 +1,5 @@
+//! Whether a value has the length and lies in the range that its key asks for.
+
 ghost use Rattle.std.specs.Prelude.{◌≡◌, ◌+◌, ◌-◌, ◌<◌, ◌^◌, ◌||◌, pos, codes, is_none, nat_le, option_map, take, unsigned_abs, if◌then◌else◌};
 ghost use Rattle.std.specs.Ordering.{int_eq};
 ghost use Rattle.std.specs.List.{list_all};

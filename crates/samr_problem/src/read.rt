@@ -1,3 +1,5 @@
+//! The reading of a problem from its bytes.
+
 ghost use Rattle.std.specs.Prelude.{◌≡◌};
 ghost use Rattle.samr_problem.specs.Reading.{reading, text_reading, Reads};
 

@@ -1,3 +1,5 @@
+//! Why a text was not read: its first fault, or want of memory.
+
 ghost use Rattle.std.specs.Prelude.{◌≡◌};
 ghost use Rattle.samr_problem.specs.Refusals.{refusal_at, IsRefusal};
 

@@ -1,3 +1,5 @@
+//! The tables of each list of a document.
+
 ghost use Rattle.std.specs.Prelude.{IfOk};
 ghost use Rattle.toml.specs.View.{table_view};
 ghost use Rattle.samr_problem.specs.Tables.{AreTables};

@@ -1,3 +1,5 @@
+//! A text that contracts see as its bytes.
+
 ghost use Rattle.std.specs.Prelude.{◌≡◌, ℕ, List, string_bytes};
 
 use std::marker::Model;

@@ -1,3 +1,5 @@
+//! Whether a value is of the type that its key asks for.
+
 ghost use Rattle.std.specs.Prelude.{◌≡◌, map};
 ghost use Rattle.std.specs.List.{list_all};
 ghost use Rattle.toml.specs.View.{view};

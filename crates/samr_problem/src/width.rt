@@ -1,3 +1,5 @@
+//! The width of all connectors, and what the fields of a problem say together.
+
 ghost use Rattle.std.specs.Prelude.{◌≡◌, ◌++◌, codes, not};
 ghost use Rattle.std.specs.List.{position_from};
 ghost use Rattle.samr_box.specs.Vector.{at_most};

@@ -6,8 +6,6 @@
 mod mail;
 mod relay;
 mod run;
-#[cfg(test)]
-mod tests;
 
 pub use mail::RelayMail;
 pub use relay::Relay;

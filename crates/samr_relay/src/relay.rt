@@ -1,3 +1,5 @@
+//! The program of one rank of a relay.
+
 ghost use Rattle.std.specs.Prelude.{◌≡◌, ◌+◌, ◌<◌, ℕ, Bool, false, ◌++◌, [], ◌∷◌, map, All, IsSome, IfSome, IfOk, OnOk, ◌↔◌, cond};
 ghost use Rattle.std.specs.Arc.{arc_value};
 ghost use Rattle.samr_stage.specs.Course.{IsOver, name_of, sent, awaited, label_at};

@@ -1,3 +1,5 @@
+//! What a run of a relay is: who tells whom in which round.
+
 ghost use Rattle.std.specs.Prelude.{◌≡◌, ◌<◌, if◌then◌else◌};
 ghost use Rattle.samr_relay.specs.Relay.{turn, teller, reaches, hears, HasTurns, IsRelay};
 

@@ -12,7 +12,7 @@ use Rattle.samr_level.specs.Levels.{IsLevel, own}
 use Rattle.samr_level.specs.Overlaps.{Scale, true_overlaps, of_rank}
 use Rattle.samr_level.proofs.RefLaws.{ref_total, edge_total}
 use Rattle.samr_level.proofs.Overlapping.{overlaps_sorted, Member-from_overlaps}
-use Rattle.samr_sched.specs.Scheduling.{Scheduling}
+use Rattle.samr_sched.specs.Ask.{Scheduling}
 use Rattle.samr_sched.specs.PlanRows.{rows_of}
 use Rattle.samr_problem.specs.Fields.{Fields}
 use Rattle.samr_mesh.specs.Domains.{area_of, level0_of}

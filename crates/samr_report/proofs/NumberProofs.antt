@@ -4,8 +4,8 @@ use Rattle.samr_data.specs.Places.{cells_in, place, cell_at}
 use Rattle.samr_sign.specs.Counts.{weigh, tally}
 use Rattle.samr_level.specs.Overlaps.{shifts, true_overlaps}
 use Rattle.samr_sched.specs.PlanRows.{ghosts_with, rows_of_box}
-use Rattle.samr_fill.specs.Filling.{value_of}
-use Rattle.samr_values.specs.Renewing.{new_value}
+use Rattle.samr_fill.specs.Fill.{value_of}
+use Rattle.samr_values.specs.Values.{new_value}
 use Rattle.samr_report.specs.Numbers.{NumbersOfTwoFields, NumbersOfTwoLevels, NumbersOfMoving}
 
 pub two_fields : NumbersOfTwoFields

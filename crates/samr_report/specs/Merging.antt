@@ -5,7 +5,7 @@ use Rattle.samr_level.specs.Refs.{Owned, Link}
 use Rattle.samr_level.specs.Regions.{Area}
 use Rattle.samr_level.specs.Levels.{IsLevel, own}
 use Rattle.samr_level.specs.Overlaps.{Scale, true_overlaps, of_rank}
-use Rattle.samr_sched.specs.Scheduling.{Scheduling}
+use Rattle.samr_sched.specs.Ask.{Scheduling}
 use Rattle.samr_sched.specs.PlanRows.{rows_of}
 use Rattle.samr_report.specs.ScheduleLines.{row_line, row_lines}
 

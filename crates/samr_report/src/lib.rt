@@ -29,6 +29,3 @@ pub use level0_text::check_text;
 pub use lines::{put_count, put_line};
 pub use rows::{BoxSum, LevelRows, RankRows, StepRows};
 pub use whole_text::report;
-
-#[cfg(test)]
-mod tests;

@@ -16,7 +16,7 @@ use Rattle.samr_box.proofs.CellSets.{Holds-test, holds-from, Meet-cell}
 use Rattle.samr_box.proofs.Members.{Member-map, Member-from_map, Member-filter, Member-from_filter}
 use Rattle.samr_boxlist.specs.Covers.{held}
 use Rattle.samr_level.specs.Refs.{Owned}
-use Rattle.samr_level.specs.Levels.{own, IsLevel}
+use Rattle.samr_level.specs.Levels.{own, own_boxes, IsLevel}
 use Rattle.samr_level.specs.Regions.{Area}
 use Rattle.samr_bits.specs.Bits.{one}
 use Rattle.samr_sign.specs.Counts.{Sign, sign, sign_sum, added, tally, weigh, planes, slice}
@@ -24,18 +24,18 @@ use Rattle.samr_sign.proofs.Slices.{same_test, IsBox-slice, Holds-slice}
 use Rattle.samr_sign.proofs.Tallies.{weigh_plus, weigh_le}
 use Rattle.samr_sign.proofs.Sums.{tallies_sum, same_sign}
 use Rattle.samr_rounds.specs.Near.{is_near}
-use Rattle.samr_rounds.specs.Owners.{own_boxes, own_tags, AreTagsOf}
+use Rattle.samr_rounds.specs.Owners.{own_tags, AreTagsOf}
 use Rattle.samr_rounds.specs.Ranks.{near_ranks, sum_of_signs}
 use Rattle.samr_rounds.proofs.Lists.{any_member, member_any, nat_eq_self, sum_zero, sum_filter, sum_map, one_of_range, map_below}
 use Rattle.samr_rounds.proofs.NearLaws.{near_tagged}
 
 -- the boxes of a rank
 Member-own_boxes : (b : Owned) (rank : ℕ) (level : List Owned) → Member b level → nat_eq b.owner rank ≡ true → Member b.bx (own_boxes rank level)
-unfolding own_boxes own
+unfolding own
 Member-own_boxes b rank level m e = Member-map (λ (v : Owned). v.bx) b (filter (λ v. nat_eq v.owner rank) level) (Member-filter (λ (v : Owned). nat_eq v.owner rank) b level m e)
 
 Member-from_own_boxes : (c : Corners) (rank : ℕ) (level : List Owned) → Member c (own_boxes rank level) → (b : Owned) × Member b level × (nat_eq b.owner rank ≡ true) × (c ≡ b.bx)
-unfolding own_boxes own
+unfolding own
 Member-from_own_boxes c rank level m =
     let r = Member-from_map (λ (v : Owned). v.bx) c (filter (λ v. nat_eq v.owner rank) level) m in
     let s = Member-from_filter (λ (v : Owned). nat_eq v.owner rank) r.0 level r.1 in

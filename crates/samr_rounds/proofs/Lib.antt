@@ -9,3 +9,4 @@ pub mod Searching
 pub mod DirectedRoots
 pub mod LevelLaws
 pub mod OwnerCounts
+pub mod Rooting

@@ -19,6 +19,7 @@ use Rattle.samr_box.proofs.Members.{Member-flat_map, Member-from_flat_map, Membe
 use Rattle.samr_boxlist.specs.Covers.{held}
 use Rattle.samr_level.specs.Refs.{Owned}
 use Rattle.samr_level.specs.Overlaps.{steps, shifts}
+use Rattle.samr_level.specs.Levels.{own_boxes}
 use Rattle.samr_sign.specs.declared.rule.CutRule.{CutRule}
 use Rattle.samr_sign.specs.Counts.{tally}
 use Rattle.samr_sign.proofs.Tallies.{tally_none}
@@ -26,7 +27,7 @@ use Rattle.samr_rounds.specs.Clusters.{accepted, parts, decided, clusters}
 use Rattle.samr_rounds.specs.Rounds.{accepted_of, opened, taken, told}
 use Rattle.samr_rounds.specs.Near.{meets_at, meets_an_image, is_near}
 use Rattle.samr_rounds.specs.Images.{any_along}
-use Rattle.samr_rounds.specs.Owners.{own_boxes, own_tags}
+use Rattle.samr_rounds.specs.Owners.{own_tags}
 use Rattle.samr_rounds.specs.Laws.{IsNode, AreNodes}
 use Rattle.samr_rounds.specs.Ranks.{accepted_near}
 use Rattle.samr_rounds.proofs.Lists.{any_more, any_member, any_map, any_flat_map}

@@ -12,14 +12,14 @@ use Rattle.samr_box.specs.Lists.{Member}
 use Rattle.samr_box.proofs.Members.{Member-filter}
 use Rattle.samr_boxlist.specs.Covers.{held}
 use Rattle.samr_level.specs.Refs.{Owned}
-use Rattle.samr_level.specs.Levels.{IsLevel}
+use Rattle.samr_level.specs.Levels.{own_boxes, IsLevel}
 use Rattle.samr_level.specs.Regions.{Area}
 use Rattle.samr_sign.specs.declared.rule.CutRule.{CutRule}
 use Rattle.samr_sign.specs.Counts.{tally}
 use Rattle.samr_rounds.specs.declared.owner.RankTags.{RankTags}
 use Rattle.samr_rounds.specs.Clusters.{accepted, decided}
 use Rattle.samr_rounds.specs.Near.{is_near}
-use Rattle.samr_rounds.specs.Owners.{own_boxes, own_tags, AreTagsOf, most, owner_in, counts_of, owner_of}
+use Rattle.samr_rounds.specs.Owners.{own_tags, AreTagsOf, most, owner_in, counts_of, owner_of}
 use Rattle.samr_rounds.specs.Laws.{IsNode}
 use Rattle.samr_rounds.specs.Ranks.{near_ranks}
 use Rattle.samr_rounds.proofs.Lists.{Member-range, Member-from_range, sum_zero}

@@ -5,3 +5,4 @@ pub mod Images
 pub mod Owners
 pub mod Laws
 pub mod Ranks
+pub mod Roots

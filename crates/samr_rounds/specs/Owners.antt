@@ -7,16 +7,13 @@ use Rattle.samr_box.specs.Corners.{Corners}
 use Rattle.samr_boxlist.specs.Covers.{held}
 use Rattle.samr_level.specs.Refs.{Owned}
 use Rattle.samr_level.specs.RefOrders.{ref_cmp, in_order}
-use Rattle.samr_level.specs.Levels.{own, IsCellIn}
+use Rattle.samr_level.specs.Levels.{own_boxes, IsCellIn}
 use Rattle.samr_sign.specs.declared.rule.CutRule.{CutRule}
 use Rattle.samr_sign.specs.Counts.{tally}
 use Rattle.samr_rounds.specs.declared.owner.RankTags.{RankTags}
 use Rattle.samr_rounds.specs.Clusters.{clusters}
 
--- the boxes of a rank, and the tags that lie in them
-unfoldable pub own_boxes : ℕ → List Owned → List Corners
-own_boxes rank level = map (λ b. b.bx) (own rank level)
-
+-- the tags that lie in the boxes of a rank
 unfoldable pub own_tags : (IVec → Bool) → List Owned → ℕ → IVec → Bool
 own_tags t level rank x = t x && held x (own_boxes rank level)
 

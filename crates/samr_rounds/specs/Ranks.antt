@@ -8,7 +8,7 @@ use Rattle.samr_box.specs.Space.{Space}
 use Rattle.samr_box.specs.Lists.{Member}
 use Rattle.samr_boxlist.specs.Covers.{held, IsDisjoint}
 use Rattle.samr_level.specs.Refs.{Owned}
-use Rattle.samr_level.specs.Levels.{IsLevel}
+use Rattle.samr_level.specs.Levels.{own_boxes, IsLevel}
 use Rattle.samr_level.specs.Regions.{Area, IsCellOf}
 use Rattle.samr_sign.specs.declared.rule.CutRule.{CutRule}
 use Rattle.samr_sign.specs.Counts.{Sign, sign, sign_sum, tally}
@@ -16,7 +16,7 @@ use Rattle.samr_sign.specs.Decide.{shrunk}
 use Rattle.samr_rounds.specs.Clusters.{accepted, parts, decided, clusters}
 use Rattle.samr_rounds.specs.Rounds.{accepted_of, opened, told}
 use Rattle.samr_rounds.specs.Near.{is_near}
-use Rattle.samr_rounds.specs.Owners.{own_boxes, own_tags, AreTagsOf, owner_in, counts_of, owner_of, cluster_level}
+use Rattle.samr_rounds.specs.Owners.{own_tags, AreTagsOf, owner_in, counts_of, owner_of, cluster_level}
 use Rattle.samr_rounds.specs.Laws.{IsNode, AreNodes}
 
 -- who is near a part of a node, or near the box accepted of it, is near the node

@@ -1,3 +1,5 @@
+//! The clusters of a root, by a plain and slow search.
+
 ghost use Rattle.std.specs.Prelude.{◌≡◌, ◌<◌, ◌^◌, [], ◌∷◌, ◌++◌, IfOk, OnOk};
 ghost use Rattle.samr_box.specs.Corners.{cells_of};
 ghost use Rattle.samr_sign.specs.Fields.{tagged_in, AreApart};

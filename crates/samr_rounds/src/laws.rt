@@ -1,5 +1,8 @@
+//! The laws of clusters and rounds, each as the contract of a function without a body to speak of.
+
 ghost use Rattle.samr_rounds.specs.Laws.{ClustersCoverTags, ClustersStayApart, ClustersHaveTags, CutsEnd, RoundsTakeTheClusters, RoundsEnd, OpenNodesAreNodes, RootsAreDirected};
 ghost use Rattle.samr_rounds.specs.Ranks.{NearGoesDown, TheNearAreTold, NearClustersAreTold, NearWhereTagged, TheFarHaveNone, OwnCountsAddUp, NearSignaturesAddUp, CountsStayWhenShrunk, OwnersHaveMost, NearCountsTellTheOwner, TheLevelHasTheClusters, ClustersMakeALevel};
+ghost use Rattle.samr_rounds.specs.Roots.{BlocksAreRoots};
 
 /// The law that each tag of a root lies in a cluster.
 pub fn clusters_cover_tags()
@@ -99,4 +102,9 @@ pub fn the_level_has_the_clusters()
 /// The law that it is a level, where the roots are disjoint and lie in the domain.
 pub fn clusters_make_a_level()
     ensures { ClustersMakeALevel }
+{}
+
+/// The blocks of a box have its cells, each once, and their cells can be counted.
+pub fn blocks_are_roots()
+    ensures { BlocksAreRoots }
 {}

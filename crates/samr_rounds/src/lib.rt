@@ -13,15 +13,12 @@ mod roots;
 
 pub use clusters::clusters_of;
 pub use laws::{
-    clusters_cover_tags, clusters_have_tags, clusters_make_a_level, clusters_stay_apart,
-    counts_stay_when_shrunk, cuts_end, near_clusters_are_told, near_counts_tell_the_owner,
-    near_goes_down, near_signatures_add_up, near_where_tagged, open_nodes_are_nodes,
-    own_counts_add_up, owners_have_most, roots_are_directed, rounds_end, rounds_take_the_clusters,
-    the_far_have_none, the_level_has_the_clusters, the_near_are_told,
+    blocks_are_roots, clusters_cover_tags, clusters_have_tags, clusters_make_a_level,
+    clusters_stay_apart, counts_stay_when_shrunk, cuts_end, near_clusters_are_told,
+    near_counts_tell_the_owner, near_goes_down, near_signatures_add_up, near_where_tagged,
+    open_nodes_are_nodes, own_counts_add_up, owners_have_most, roots_are_directed, rounds_end,
+    rounds_take_the_clusters, the_far_have_none, the_level_has_the_clusters, the_near_are_told,
 };
 pub use near::is_near;
 pub use owner::{RankTags, owner_of_counts};
 pub use roots::directed;
-
-#[cfg(test)]
-mod tests;

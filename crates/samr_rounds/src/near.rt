@@ -1,3 +1,5 @@
+//! Whether the boxes of a rank are near a node.
+
 ghost use Rattle.std.specs.Prelude.{◌≡◌, negsuc, pos};
 ghost use Rattle.samr_box.specs.declared.vector.Axis.TheVariants.{I, J, K};
 ghost use Rattle.samr_box.specs.Vector.{put, InRange};

@@ -1,3 +1,5 @@
+//! Which rank owns a cluster.
+
 ghost use Rattle.std.specs.Prelude.{◌≡◌, None};
 ghost use Rattle.std.specs.List.{fold};
 ghost use Rattle.samr_rounds.specs.Owners.{better, owner_in};

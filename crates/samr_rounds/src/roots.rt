@@ -1,3 +1,5 @@
+//! Which roots a rank directs.
+
 ghost use Rattle.std.specs.Prelude.{◌≡◌, ◌<◌, ◌++◌, IfOk, OnOk, if◌then◌else◌, ◌∷◌, []};
 ghost use Rattle.samr_rounds.specs.Rounds.{directed};
 

@@ -7,6 +7,3 @@ mod reply;
 mod words;
 
 pub use plain::{Status, samr_plain};
-
-#[cfg(test)]
-mod tests;

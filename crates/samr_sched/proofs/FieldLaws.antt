@@ -10,7 +10,7 @@ use Rattle.samr_nest.specs.Nested.{holes_by}
 use Rattle.samr_sched.specs.declared.plan.Request.{Request}
 use Rattle.samr_sched.specs.declared.plan.FieldPlan.{FieldPlan}
 use Rattle.samr_sched.specs.declared.making.Ground.{Ground}
-use Rattle.samr_sched.specs.Making.{has_ghosts, asked_by, field_by}
+use Rattle.samr_sched.specs.PlansOfParts.{has_ghosts, asked_by, field_by}
 
 pub field_is : (n : Ground) (near under : List Link) (b : Owned) (field : ℕ) (width : IVec) (wide bx : Corners) (d : Space)
     (inside inside1 rest rest1 rest2 : List Corners) (copied copied1 : List Link) (asked asked1 : List Request)

@@ -3,15 +3,14 @@ pub mod Counted
 pub mod Requests
 pub mod FieldLaws
 pub mod PlanLaws
-pub mod StageRows
+pub mod AskStage
 pub mod MadeLaws
-pub mod AllStages
+pub mod AskOnAllLaws
 pub mod Heads
 pub mod LevelHeads
 pub mod OneOrigin
 pub mod DownNear
 pub mod PlanTells
-pub mod FitPlans
 pub mod CellCounts
 pub mod Pieces
 pub mod KeptRows

@@ -15,9 +15,9 @@ use Rattle.samr_level.proofs.Overlapping.{Member-from_overlaps, Member-from_of_r
 use Rattle.samr_peers.specs.Peers.{other_owners}
 use Rattle.samr_sched.specs.declared.plan.BoxPlan.{BoxPlan}
 use Rattle.samr_sched.specs.declared.making.Ground.{Ground}
-use Rattle.samr_sched.specs.Scheduling.{Scheduling, domain_of, coarse_frame, selves}
-use Rattle.samr_sched.specs.Making.{plan_by}
-use Rattle.samr_sched.specs.Asking.{down_pair, HasLevels, HasEdges, HasPlans}
+use Rattle.samr_sched.specs.Ask.{Scheduling, domain_of, coarse_frame, selves}
+use Rattle.samr_sched.specs.PlansOfParts.{plan_by}
+use Rattle.samr_sched.specs.AskParts.{down_pair, HasLevels, HasEdges, HasPlans}
 use Rattle.samr_sched.proofs.Plain.{no_members}
 use Rattle.samr_sched.proofs.PlanLaws.{ground_of, plans_are}
 

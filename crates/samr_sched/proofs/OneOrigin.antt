@@ -19,7 +19,7 @@ use Rattle.samr_border.specs.Turns.{turns, IsNearFrame}
 use Rattle.samr_border.proofs.TurnLaws.{near_neighbour}
 use Rattle.samr_sched.specs.declared.origin.Origin.{Origin}
 use Rattle.samr_sched.specs.declared.origin.Origin.TheVariants.{Outside, Copy, Coarse}
-use Rattle.samr_sched.specs.Scheduling.{Scheduling, IsScheduling, IsSourced, domain_of, frame_of, coarse_domain, coarse_frame}
+use Rattle.samr_sched.specs.Ask.{Scheduling, IsScheduling, IsSourced, domain_of, frame_of, coarse_domain, coarse_frame}
 use Rattle.samr_sched.specs.Origins.{in_level, of_heads, origins}
 use Rattle.samr_sched.proofs.Heads.{heads_none, any_from, any_is}
 use Rattle.samr_sched.proofs.LevelHeads.{of_frame, heads_not, heads_at, near_coarse}

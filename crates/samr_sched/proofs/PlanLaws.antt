@@ -26,10 +26,10 @@ use Rattle.samr_nest.proofs.Callers.{edges_of_one}
 use Rattle.samr_sched.specs.declared.plan.FieldPlan.{FieldPlan}
 use Rattle.samr_sched.specs.declared.plan.BoxPlan.{BoxPlan}
 use Rattle.samr_sched.specs.declared.making.Ground.{Ground}
-use Rattle.samr_sched.specs.Scheduling.{Scheduling, IsScheduling, domain_of, coarse_frame, selves_of, downs_of, selves, downs}
+use Rattle.samr_sched.specs.Ask.{Scheduling, IsScheduling, domain_of, coarse_frame, selves_of, downs_of, selves, downs}
 use Rattle.samr_sched.specs.Plans.{copies, asked, asked_along, field_plan, box_plan, box_plans}
-use Rattle.samr_sched.specs.Asking.{CanPlan}
-use Rattle.samr_sched.specs.Making.{starts_at, edges_at, asked_by, field_by, plan_by}
+use Rattle.samr_sched.specs.AskParts.{CanPlan}
+use Rattle.samr_sched.specs.PlansOfParts.{starts_at, edges_at, asked_by, field_by, plan_by}
 
 pub greatest_self : (r : IVec) → greatest r r ≡ r
 greatest_self r = same_cell (omega (arith, ints, clamps)) (omega (arith, ints, clamps)) (omega (arith, ints, clamps))

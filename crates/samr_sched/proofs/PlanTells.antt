@@ -34,7 +34,7 @@ use Rattle.samr_nest.proofs.EdgeImages.{near_is}
 use Rattle.samr_nest.proofs.StayLaws.{needed_at, hole_at, shifts_are}
 use Rattle.samr_sched.specs.declared.origin.Origin.{Origin}
 use Rattle.samr_sched.specs.declared.origin.Origin.TheVariants.{Outside, Copy, Coarse}
-use Rattle.samr_sched.specs.Scheduling.{Scheduling, IsScheduling, domain_of, frame_of, coarse_frame, selves_of, downs_of}
+use Rattle.samr_sched.specs.Ask.{Scheduling, IsScheduling, domain_of, frame_of, coarse_frame, selves_of, downs_of}
 use Rattle.samr_sched.specs.Origins.{in_level, of_heads, origins}
 use Rattle.samr_sched.specs.Plans.{copies, rest, field_plan}
 use Rattle.samr_sched.specs.Laws.{planned}

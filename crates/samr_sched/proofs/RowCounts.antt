@@ -38,10 +38,10 @@ use Rattle.samr_sched.specs.declared.plan.Request.{Request}
 use Rattle.samr_sched.specs.declared.plan.FieldPlan.{FieldPlan}
 use Rattle.samr_sched.specs.declared.row.Row.{Row}
 use Rattle.samr_sched.specs.declared.row.Row.TheVariants.{Copy, Coarse, Outside}
-use Rattle.samr_sched.specs.Scheduling.{Scheduling, IsScheduling, domain_of, frame_of, coarse_frame, selves_of, downs_of}
+use Rattle.samr_sched.specs.Ask.{Scheduling, IsScheduling, domain_of, frame_of, coarse_frame, selves_of, downs_of}
 use Rattle.samr_sched.specs.Origins.{is_beyond, in_level, is_copy, is_coarse}
 use Rattle.samr_sched.specs.Plans.{request, copies, rest, asked, asked_along, field_plan, box_plan, box_plans, plan_of}
-use Rattle.samr_sched.specs.Making.{has_ghosts, asked_of}
+use Rattle.samr_sched.specs.PlansOfParts.{has_ghosts, asked_of}
 use Rattle.samr_sched.specs.PlanRows.{ghosts_with, has_cells, copy_row, coarse_row, outside_row, rows_of_box, rows_of, capped, in_image, under_image, asked_edges, copy_by, coarse_by, outside_by, field_rows_by, box_rows_by, rows_by, HasRoom, HaveRoom}
 use Rattle.samr_sched.proofs.Requests.{request_total, same_from_request_cmp}
 use Rattle.samr_sched.proofs.PlanLaws.{numbered_member, can_plan, own_facts}

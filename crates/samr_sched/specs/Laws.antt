@@ -10,7 +10,7 @@ use Rattle.samr_level.specs.Refs.{Owned}
 use Rattle.samr_sched.specs.declared.origin.Origin.{Origin}
 use Rattle.samr_sched.specs.declared.origin.Origin.TheVariants.{Outside, Copy, Coarse}
 use Rattle.samr_sched.specs.declared.plan.FieldPlan.{FieldPlan}
-use Rattle.samr_sched.specs.Scheduling.{Scheduling, IsScheduling, IsSourced, frame_of, coarse_frame, downs_of}
+use Rattle.samr_sched.specs.Ask.{Scheduling, IsScheduling, IsSourced, frame_of, coarse_frame, downs_of}
 use Rattle.samr_sched.specs.Origins.{origins}
 use Rattle.samr_sched.specs.Plans.{field_plan}
 

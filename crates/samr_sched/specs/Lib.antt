@@ -1,9 +1,10 @@
-pub mod Scheduling
+pub mod Ask
 pub mod Origins
 pub mod Plans
-pub mod Making
-pub mod Asking
-pub mod AllAsking
+pub mod PlansOfParts
+pub mod AskRow
+pub mod AskParts
+pub mod AskOnAll
 pub mod StageLaws
 pub mod Laws
 pub mod PlanRows

@@ -10,7 +10,7 @@ use Rattle.samr_level.specs.Regions.{is_inside}
 use Rattle.samr_level.specs.Overlaps.{shifts}
 use Rattle.samr_sched.specs.declared.origin.Origin.{Origin}
 use Rattle.samr_sched.specs.declared.origin.Origin.TheVariants.{Outside, Copy, Coarse}
-use Rattle.samr_sched.specs.Scheduling.{Scheduling, domain_of, frame_of, coarse_frame}
+use Rattle.samr_sched.specs.Ask.{Scheduling, domain_of, frame_of, coarse_frame}
 
 -- the cell lies beyond the borders; a box of the level has it, wrapped
 abbrev pub is_beyond : Scheduling → IVec → Bool

@@ -15,7 +15,7 @@ use Rattle.samr_sched.specs.declared.plan.BoxPlan.{BoxPlan}
 use Rattle.samr_sched.specs.declared.plan.Plan.{Plan}
 use Rattle.samr_sched.specs.declared.row.Row.{Row}
 use Rattle.samr_sched.specs.declared.row.Row.TheVariants.{Copy, Coarse, Outside}
-use Rattle.samr_sched.specs.Scheduling.{Scheduling, selves_of, downs_of}
+use Rattle.samr_sched.specs.Ask.{Scheduling, selves_of, downs_of}
 use Rattle.samr_sched.specs.Origins.{is_beyond, is_copy, is_coarse}
 
 -- how many ghost cells of a box pass a test

@@ -20,7 +20,7 @@ use Rattle.samr_sched.specs.declared.plan.FieldPlan.{FieldPlan}
 use Rattle.samr_sched.specs.declared.plan.BoxPlan.{BoxPlan}
 use Rattle.samr_sched.specs.declared.plan.Asked.{Asked}
 use Rattle.samr_sched.specs.declared.plan.Plan.{Plan}
-use Rattle.samr_sched.specs.Scheduling.{Scheduling, domain_of, frame_of, coarse_frame, selves_of, selves, downs_of, downs, ups}
+use Rattle.samr_sched.specs.Ask.{Scheduling, domain_of, frame_of, coarse_frame, selves_of, selves, downs_of, downs, ups}
 
 -- requests in order: by edge, then by field, then in corner order
 abbrev pub request_cmp : Request → Request → Ordering

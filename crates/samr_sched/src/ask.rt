@@ -1,3 +1,5 @@
+//! The stage that makes the plans of a level and asks for coarse cells.
+
 ghost use Rattle.std.specs.Prelude.{◌≡◌, ℕ, ◌<◌, ◌^◌, IfOk, IfSome, List, length};
 ghost use Rattle.std.specs.List.{All};
 ghost use Rattle.std.specs.Option.{option_map};
@@ -9,9 +11,10 @@ ghost use Rattle.samr_level.specs.Regions.{finer_area};
 ghost use Rattle.samr_stage.specs.declared.stage.Held.{Held};
 ghost use Rattle.samr_stage.specs.Row.{heard, column};
 ghost use Rattle.samr_peers.specs.PeerLaws.{heavy};
-ghost use Rattle.samr_sched.specs.Scheduling.{Scheduling};
+ghost use Rattle.samr_sched.specs.Ask.{Scheduling};
 ghost use Rattle.samr_sched.specs.Plans.{plan_of};
-ghost use Rattle.samr_sched.specs.Asking.{ask_row, HasLevels, HasEdges, HasPlans};
+ghost use Rattle.samr_sched.specs.AskRow.{ask_row};
+ghost use Rattle.samr_sched.specs.AskParts.{HasLevels, HasEdges, HasPlans};
 ghost use Rattle.samr_sched.specs.StageLaws.{ask_between};
 
 use crate::asking::{others_of, requests_to};

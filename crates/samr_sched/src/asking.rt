@@ -1,10 +1,12 @@
+//! What the rest of a box needs of the level below, and the requests for it.
+
 ghost use Rattle.std.specs.Prelude.{◌≡◌, ◌++◌, IfOk, OnOk, nat_eq, map, filter};
 ghost use Rattle.std.specs.List.{flat_map, filter_map};
 ghost use Rattle.samr_box.specs.Corners.{met};
 ghost use Rattle.samr_box.specs.Space.{image};
 ghost use Rattle.samr_level.specs.RefOrders.{in_order};
 ghost use Rattle.samr_sched.specs.Plans.{request_cmp, all_asked};
-ghost use Rattle.samr_sched.specs.Making.{asked_of, asked_by, requests_by};
+ghost use Rattle.samr_sched.specs.PlansOfParts.{asked_of, asked_by, requests_by};
 
 use crate::plan::{Asked, BoxPlan, FieldPlan, Request};
 use samr_box::{Domain, IBox, Listed, Ratio, Shift, coarsen};
@@ -93,7 +95,7 @@ fn all_along(
 }
 
 /// What the pieces of the rest of a box need of the level below.
-#[tactic(auto, unfolding(crate::specs::Making::asked_by))]
+#[tactic(auto, unfolding(crate::specs::PlansOfParts::asked_by))]
 pub fn asked(
     alloc: Global,
     below: &Domain,
@@ -148,7 +150,7 @@ fn push_plans(to: u16, plans: &[BoxPlan], out: &mut Vec<Request>) -> Result<(), 
 }
 
 /// What plans ask of a rank.
-#[tactic(auto, unfolding(crate::specs::Making::requests_by))]
+#[tactic(auto, unfolding(crate::specs::PlansOfParts::requests_by))]
 pub fn requests_to(alloc: Global, to: u16, plans: &[BoxPlan]) -> Result<Listed<Request>, NoMemory>
     ensures { IfOk result (λ list. list ≡ requests_by plans.now to) }
 {

@@ -1,3 +1,5 @@
+//! The laws of the origins of ghost cells.
+
 ghost use Rattle.samr_sched.specs.Laws.{EachHasOneOrigin, PlansTellOrigins};
 
 /// The law that each ghost cell has one origin, where each in the domain has a cell to take its value from.

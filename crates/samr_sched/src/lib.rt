@@ -5,8 +5,8 @@
 //! plan is made once for each mesh, from a rank's own boxes and their edges; contracts speak of whole levels.
 #![tactic(auto)]
 
-mod all_asks;
 mod ask;
+mod ask_on_all;
 mod asking;
 mod laws;
 mod making;
@@ -15,17 +15,10 @@ mod plan;
 mod row;
 mod rows;
 
-pub use all_asks::ask_all;
 pub use ask::Ask;
+pub use ask_on_all::ask_all;
 pub use laws::{each_has_one_origin, plans_tell_origins};
 pub use origin::Origin;
 pub use plan::{Asked, BoxPlan, FieldPlan, Plan, Request};
 pub use row::Row;
 pub use rows::plan_rows;
-
-#[cfg(test)]
-mod planned;
-#[cfg(test)]
-mod row_tests;
-#[cfg(test)]
-mod tests;

@@ -1,10 +1,12 @@
+//! The plans of boxes, from their edges.
+
 ghost use Rattle.std.specs.Prelude.{◌≡◌, ◌<◌, ◌^◌, ◌&&◌, IfOk, length, map, filter, not};
 ghost use Rattle.std.specs.List.{All, enumerate_from};
 ghost use Rattle.std.specs.Ordering.{is_eq};
 ghost use Rattle.samr_box.specs.Corners.{IsBox, meets, grown};
 ghost use Rattle.samr_box.specs.Space.{image};
 ghost use Rattle.samr_level.specs.RefOrders.{ref_cmp};
-ghost use Rattle.samr_sched.specs.Making.{edges_at, has_ghosts, field_by, plan_by};
+ghost use Rattle.samr_sched.specs.PlansOfParts.{edges_at, has_ghosts, field_by, plan_by};
 
 use crate::asking::asked;
 use crate::plan::{BoxPlan, FieldPlan};
@@ -29,7 +31,7 @@ fn starts_at(b: BoxRef, e: Edge) -> bool
 }
 
 /// The edges that begin at a box.
-#[tactic(auto, unfolding(crate::specs::Making::edges_at))]
+#[tactic(auto, unfolding(crate::specs::PlansOfParts::edges_at))]
 fn edges_at(alloc: Global, b: BoxRef, edges: &[Edge]) -> Result<Vec<Edge>, NoMemory>
     ensures { IfOk result (λ v. v.items ≡ edges_at b edges.now) }
 {
@@ -143,7 +145,7 @@ fn field_plans(
 }
 
 /// The plan of a box, from the edges of all boxes of its rank.
-#[tactic(auto, unfolding(crate::specs::Making::plan_by))]
+#[tactic(auto, unfolding(crate::specs::PlansOfParts::plan_by))]
 fn box_plan(
     alloc: Global,
     ground: &Ground,

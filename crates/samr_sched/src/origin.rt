@@ -1,3 +1,5 @@
+//! The origin of a ghost cell.
+
 use samr_box::Shift;
 use samr_level::BoxRef;
 

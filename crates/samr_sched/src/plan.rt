@@ -1,3 +1,5 @@
+//! Plans and requests: what a rank knows of the origins of its ghost cells.
+
 ghost use Rattle.std.specs.Prelude.{◌≡◌, IfOk};
 
 use samr_box::{Domain, IBox, IVec, Listed, Ratio};

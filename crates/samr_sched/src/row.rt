@@ -1,3 +1,5 @@
+//! A row of a schedule: how many ghost cells of a box have one origin.
+
 use samr_box::Shift;
 use samr_level::BoxRef;
 

@@ -1,10 +1,12 @@
+//! The rows of plans.
+
 ghost use Rattle.std.specs.Prelude.{◌≡◌, ℕ, ◌*◌, ◌<◌, ◌^◌, IfOk, length, sum_by, map, filter};
 ghost use Rattle.std.specs.List.{All, flat_map, enumerate_from};
 ghost use Rattle.samr_box.specs.Corners.{IsBox, grown, met, cells_of};
 ghost use Rattle.samr_box.specs.Ratios.{refined};
 ghost use Rattle.samr_level.specs.RefOrders.{edge_cmp, in_order};
 ghost use Rattle.samr_sched.specs.declared.row.Row.TheVariants.{Copy, Coarse, Outside};
-ghost use Rattle.samr_sched.specs.Scheduling.{Scheduling, IsScheduling};
+ghost use Rattle.samr_sched.specs.Ask.{Scheduling, IsScheduling};
 ghost use Rattle.samr_sched.specs.Plans.{plan_of};
 ghost use Rattle.samr_sched.specs.PlanRows.{rows_of, cells_in, has_cells, capped, size_of, in_image, under_asked, under_image, asked_edges, copy_by, coarse_by, outside_by, field_rows_by, box_rows_by, rows_by, HasRoom, HaveRoom};
 

@@ -6,6 +6,3 @@ mod tagging;
 
 pub use shape::Shape;
 pub use tagging::tags;
-
-#[cfg(test)]
-mod tests;

@@ -1,3 +1,5 @@
+//! The shapes of a problem: balls and slabs, and how they move.
+
 use samr_box::IVec;
 
 /// A shape that tags cells. Positions and lengths are in cells of the finest index space; at step t a

@@ -1,3 +1,5 @@
+//! Which cells the shapes tag at a step.
+
 ghost use Rattle.std.specs.Prelude.{◌≡◌, ◌≤◌, ◌^◌, nat_le, pos, negsuc, ◌+ℤ◌, ◌≤ℤ◌, All};
 ghost use Rattle.samr_box.specs.declared.vector.IVec.{IVec};
 ghost use Rattle.samr_box.specs.declared.vector.Axis.TheVariants.{I, J};

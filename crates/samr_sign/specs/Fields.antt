@@ -1,10 +1,11 @@
 -- A tag field as its box and its words: row by row, j fastest, then k, each row beginning a word.
-use Rattle.std.specs.Prelude.{◌≡◌, ℕ, ◌+◌, ◌*◌, ◌%◌, ◌^◌, ◌<◌, ◌≤◌, Bool, false, ◌&&◌, List, length, count_by}
+use Rattle.std.specs.Prelude.{◌≡◌, ℕ, ◌+◌, ◌*◌, ◌%◌, ◌^◌, ◌<◌, ◌≤◌, Bool, false, ◌&&◌, List, length, map, count_by}
 use Rattle.std.specs.Int.{div_ceil}
 use Rattle.std.specs.List.{list_any}
 use Rattle.samr_box.specs.declared.vector.Axis.TheVariants.{I, J, K}
 use Rattle.samr_box.specs.declared.vector.IVec.{IVec}
 use Rattle.samr_box.specs.Corners.{Corners, IsBox, span, holds}
+use Rattle.samr_box.specs.Lists.{Member}
 use Rattle.samr_bits.specs.Bits.{is_set}
 use Rattle.samr_sign.specs.Counts.{offset}
 
@@ -40,6 +41,11 @@ pub record IsField (f : Field) : Type 0 where
 -- the cell is tagged in some field
 abbrev pub tagged_in : List Field → IVec → Bool
 tagged_in fields x = list_any (λ f. tagged f x) fields
+
+-- fields on these boxes, in their order, that have these tags
+pub record AreTags (boxes : List Corners) (tags : IVec → Bool) (fields : List Field) : Type 0 where
+  pub same_boxes : map (λ f. f.bx) fields ≡ boxes
+  pub cells : (f : Field) (x : IVec) → Member f fields → tagged f x ≡ (holds f.bx x && tags x)
 
 -- no cell lies in the boxes of two fields
 abbrev pub AreApart : List Field → Type 0

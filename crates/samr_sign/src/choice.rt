@@ -1,3 +1,5 @@
+//! The decision on a box from its signature: dropped, accepted or cut in two.
+
 ghost use Rattle.std.specs.Prelude.{◌≡◌, ◌*◌, ◌<◌, ◌≤◌, ◌^◌, nat_lt, nat_le, length};
 ghost use Rattle.samr_box.specs.declared.vector.Axis.{Axis};
 ghost use Rattle.samr_box.specs.Corners.{span, cells_of};

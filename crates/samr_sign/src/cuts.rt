@@ -1,3 +1,5 @@
+//! The cuts of a box on all its axes, and the best of them.
+
 ghost use Rattle.std.specs.Prelude.{◌≡◌, ◌<◌, ◌+◌, length, if◌then◌else◌};
 ghost use Rattle.std.specs.List.{fold};
 ghost use Rattle.samr_box.specs.declared.vector.Axis.{Axis};

@@ -1,3 +1,5 @@
+//! What becomes of a box.
+
 use samr_box::IBox;
 
 /// What becomes of a box.

@@ -1,3 +1,5 @@
+//! Tag fields: one bit for each cell of a box.
+
 ghost use Rattle.std.specs.Prelude.{◌≡◌, ◌+◌, ◌*◌, ◌<◌, ◌≤◌, ◌^◌, ◌||◌, false, length, IsTrue, IfOk, IfSome};
 ghost use Rattle.samr_box.specs.declared.vector.Axis.TheVariants.{I, J, K};
 ghost use Rattle.samr_box.specs.declared.vector.IVec.{IVec};

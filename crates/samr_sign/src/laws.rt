@@ -1,3 +1,5 @@
+//! The laws of decisions, each as the contract of a function without a body to speak of.
+
 ghost use Rattle.samr_sign.specs.Laws.{EachDecisionIsAFate, ShrinkingKeepsTags, ShrinkingStaysInside};
 
 /// The law that a decision drops exactly the boxes without a tag, accepts the shrunk box, or cuts it

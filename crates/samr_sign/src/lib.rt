@@ -21,6 +21,3 @@ pub use field::TagField;
 pub use laws::{each_decision_is_a_fate, shrinking_keeps_tags, shrinking_stays_inside};
 pub use rule::CutRule;
 pub use signature::{Signature, counts_add_up, signatures_add_up};
-
-#[cfg(test)]
-mod tests;

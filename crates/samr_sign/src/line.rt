@@ -1,3 +1,5 @@
+//! The counts of the planes on one axis: planes without a tag, and where a cut may lie.
+
 ghost use Rattle.std.specs.Prelude.{◌≡◌, ◌+◌, ◌-◌, ◌<◌, ◌≤◌, length, Option, if◌then◌else◌};
 ghost use Rattle.std.specs.List.{suffix_len};
 ghost use Rattle.samr_sign.specs.Line.{leading, trailing, kept, admissible, off, nearer, is_zero_cut, zero_cut, bend, opposite, is_turn, jump};

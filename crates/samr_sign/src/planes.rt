@@ -1,3 +1,5 @@
+//! The planes of a box.
+
 ghost use Rattle.std.specs.Prelude.{◌≡◌, ◌<◌};
 ghost use Rattle.samr_box.specs.Corners.{span};
 ghost use Rattle.samr_sign.specs.Counts.{slice};

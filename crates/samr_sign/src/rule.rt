@@ -1,3 +1,5 @@
+//! When a box is accepted, and how small its parts may be.
+
 ghost use Rattle.std.specs.Prelude.{pos, ◌≤ℤ◌};
 
 /// When a box is worth its cells, and how small a part may be.

@@ -1,3 +1,5 @@
+//! Signatures: how many cells are tagged in each plane of a box.
+
 ghost use Rattle.std.specs.Prelude.{◌≡◌, ◌+◌, ◌<◌, ◌≤◌, ◌^◌, ◌≤ℤ◌, ℕ, IfOk, length, sum, slice_index};
 ghost use Rattle.samr_box.specs.Vector.{at};
 ghost use Rattle.samr_box.specs.Corners.{IsBox, cells_of};
@@ -90,6 +92,22 @@ impl Signature {
         let j = planes_of(alloc, Axis::J, bx, fields)?;
         let k = planes_of(alloc, Axis::K, bx, fields)?;
         Ok(Signature { bx, i, j, k })
+    }
+
+    /// The same once more.
+    ///
+    /// # Errors
+    ///
+    /// Where there is not enough memory.
+    pub fn copied(&self, alloc: Global) -> Result<Signature, NoMemory>
+        ensures { IfOk result (λ s. s ≡ self.now) }
+    {
+        Ok(Signature {
+            bx: self.bx,
+            i: Vec::from_slice(alloc, self.i.as_slice())?,
+            j: Vec::from_slice(alloc, self.j.as_slice())?,
+            k: Vec::from_slice(alloc, self.k.as_slice())?,
+        })
     }
 
     /// The box.

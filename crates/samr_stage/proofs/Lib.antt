@@ -6,7 +6,6 @@ pub mod KeptLetters
 pub mod Machines
 pub mod Rows
 pub mod Lines
-pub mod BoxLemmas
+pub mod Mailboxes
 pub mod RunLemmas
 pub mod Carrying
-pub mod TellingLemmas

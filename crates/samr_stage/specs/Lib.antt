@@ -6,7 +6,6 @@ pub mod Machine
 pub mod Work
 pub mod Row
 pub mod Exchange
-pub mod Boxes
+pub mod Mailboxes
 pub mod Fragments
 pub mod Carried
-pub mod Telling

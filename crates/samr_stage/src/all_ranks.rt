@@ -1,6 +1,8 @@
+//! One stage on all ranks, on one thread.
+
 ghost use Rattle.std.specs.Prelude.{◌≡◌, ◌+◌, ◌<◌, ◌≤◌, ◌^◌, ℕ, length, All, [], IfOk, OnOk};
 ghost use Rattle.samr_stage.specs.Exchange.{AreParts, AreResults};
-ghost use Rattle.samr_stage.specs.Boxes.{HoldHeard, Deliver, AreTelling};
+ghost use Rattle.samr_stage.specs.Mailboxes.{HoldHeard, Deliver, AreTelling};
 
 use crate::stage::{Held, Stage};
 use std::alloc::{AllocError as NoMemory, Global};

@@ -1,3 +1,5 @@
+//! How a program does the step of a stage at a label of its run.
+
 ghost use Rattle.std.specs.Prelude.{◌≡◌, ℕ, ◌↔◌, Some, map, All, IsTrue, IfOk, OnOk};
 ghost use Rattle.samr_stage.specs.declared.label.Label.{Label};
 ghost use Rattle.samr_stage.specs.declared.label.Name.{Name};

@@ -1,3 +1,5 @@
+//! The letters that a machine keeps, by name: one is put in, those of a label are taken out.
+
 ghost use Rattle.std.specs.Prelude.{◌≡◌, ◌≢◌, ◌≤◌, take, drop, length, All, OnOk, IfOk};
 ghost use Rattle.std.specs.declared.cmp.Ordering.TheVariants.{Less};
 ghost use Rattle.samr_stage.specs.Label.{label_cmp};

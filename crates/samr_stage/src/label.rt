@@ -1,3 +1,5 @@
+//! Labels, and the names of letters.
+
 /// One stage of a run: the time step, the pass over the levels, the phase, and the round of the
 /// phase. Labels are ordered by these fields in turn, which is the order in which a rank visits
 /// them.

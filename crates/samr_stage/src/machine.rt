@@ -1,3 +1,5 @@
+//! The machine that takes a rank's program from label to label.
+
 ghost use Rattle.std.specs.Prelude.{◌≡◌, ◌↔◌, Bool, true, false, not, IsTrue, IsNone, IsErr, IfOk, OnOk, OnErr};
 ghost use Rattle.samr_stage.specs.Machine.{IsSound, IsIdle, IsDone, Begins, Turned, label_of};
 
@@ -139,6 +141,3 @@ impl<P: Program> Machine<P> {
         program
     }
 }
-
-#[cfg(test)]
-mod tests;

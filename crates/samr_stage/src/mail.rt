@@ -1,3 +1,5 @@
+//! What a letter of a run is.
+
 ghost use Rattle.std.specs.Prelude.{◌≡◌, ◌↔◌, IsTrue, IfOk, Some};
 ghost use Rattle.samr_stage.specs.declared.label.Name.{Name};
 ghost use Rattle.samr_stage.specs.Course.{Course};

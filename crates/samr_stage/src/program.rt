@@ -1,3 +1,5 @@
+//! What one rank does in a run, label by label.
+
 ghost use Rattle.std.specs.Prelude.{◌≡◌, ℕ, ◌+◌, ◌↔◌, Bool, true, false, map, All, IsTrue, IfOk, OnOk};
 ghost use Rattle.samr_stage.specs.Course.{IsCourse, IsOver, sent, awaited, label_at};
 ghost use Rattle.samr_stage.specs.Held.{IsHeld, Stays};

@@ -1,3 +1,5 @@
+//! What the ranks do at one label, seen from one of them.
+
 ghost use Rattle.std.specs.Prelude.{◌≡◌, ◌≢◌, ℕ, ◌<◌, Option, Some, is_some, IsTrue, IfOk, OnOk, sum_by};
 ghost use Rattle.samr_stage.specs.Row.{told, heard, column};
 

@@ -1,3 +1,5 @@
+//! What a turn of a machine answers.
+
 /// What a machine did in one turn.
 #[derive(Debug, Drop)]
 pub enum Turn<M> {

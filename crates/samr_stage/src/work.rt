@@ -1,3 +1,5 @@
+//! What a machine works with, and what it does with it in a turn.
+
 ghost use Rattle.std.specs.Prelude.{◌≡◌, ◌↔◌, [], Bool, true, false, not, IsTrue, OnOk, IfOk};
 ghost use Rattle.samr_stage.specs.Machine.{IsReady, IsSound, IsIdle, IsWanted, Begins, Takes, Posts, Advances, Turned};
 ghost use Rattle.samr_stage.specs.Work.{state_of};

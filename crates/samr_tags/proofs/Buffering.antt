@@ -27,7 +27,7 @@ use Rattle.samr_level.proofs.RefLaws.{ref_total, same_from_ref_cmp}
 use Rattle.samr_level.proofs.Overlapping.{opposite-shifts}
 use Rattle.samr_border.specs.Turns.{turns}
 use Rattle.samr_border.proofs.TurnLaws.{turns_shift, turns_home, turns_is, near_of_shift, near_neighbour}
-use Rattle.samr_tags.specs.Tagging.{Tagging, IsTagging, IsTagged, space, in_level, is_shaped, tags_of}
+use Rattle.samr_tags.specs.Buffer.{Tagging, IsTagging, IsTagged, space, in_level, is_shaped, tags_of}
 use Rattle.samr_tags.specs.Seeing.{about, seen_cells, spread}
 use Rattle.samr_tags.proofs.Marks.{met_part, met_is}
 use Rattle.samr_tags.proofs.Spots.{any_member, member_any, near_some, near_has, self_near}

@@ -13,7 +13,7 @@ use Rattle.samr_box.proofs.Floors.{floor_self, floor-mul, last-from_floor, mul-f
 use Rattle.samr_box.proofs.Products.{mul-plus, mul-minus, mul-neg, mul_assoc, mul_comm, mul_one, mul_le}
 use Rattle.samr_box.proofs.CellSets.{meets-from}
 use Rattle.samr_level.specs.Overlaps.{Scale, scale, near, rounded_up}
-use Rattle.samr_tags.specs.Covering.{covering}
+use Rattle.samr_tags.specs.Cover.{covering}
 
 -- on one axis: rounding up, and the corners of what a box needs
 nest_fits : (nest l W : ℤ) → pos 1 ≤ℤ l → floor (nest +ℤ (l -ℤ pos 1)) l ≤ℤ W → nest ≤ℤ (W *ℤ l)

@@ -9,10 +9,10 @@ use Rattle.samr_level.proofs.Overlapping.{opposite-shifts}
 use Rattle.samr_border.specs.Turns.{turns}
 use Rattle.samr_border.proofs.TurnLaws.{turns_shift, turns_home, turns_is, near_of_shift}
 use Rattle.samr_border.proofs.ImageCells.{holds_moved_back}
-use Rattle.samr_tags.specs.Covering.{Covering, IsCovered, AreNear, frame_of, covering, covered}
+use Rattle.samr_tags.specs.Cover.{Covering, IsCovered, AreNear, frame_of, covering, covered}
 use Rattle.samr_tags.proofs.Shifts.{shifts_are}
 use Rattle.samr_tags.proofs.Buffering.{turned_back}
-use Rattle.samr_tags.proofs.CoverLaws.{covered_is, covered_from}
+use Rattle.samr_tags.proofs.CoverStage.{covered_is, covered_from}
 
 pub wraps : (w : Covering) (x : IVec) → IsSpace (frame_of w) → Holds (whole (frame_of w)) x → covered w x ≡ true → IsCovered w x
 wraps w x space hx test =

@@ -12,7 +12,7 @@ use Rattle.samr_box.proofs.CellSets.{coarse-AtMost}
 use Rattle.samr_level.proofs.Reaches.{Bounded, bounded-coarse, bounded-plus, bounded-minus}
 use Rattle.samr_level.specs.Refs.{Link}
 use Rattle.samr_tags.specs.declared.needs.Needs.{Needs}
-use Rattle.samr_tags.specs.Covers.{HasRoom}
+use Rattle.samr_tags.specs.CoverRow.{HasRoom}
 use Rattle.samr_tags.specs.Rooms.{IsSmall, IsSmallBox, SmallCoversHaveRoom}
 use Rattle.samr_tags.proofs.Regions.{wider, moved_order}
 

@@ -19,7 +19,7 @@ use Rattle.samr_bits.specs.Sums.{sum_below}
 use Rattle.samr_level.specs.Overlaps.{Scale, scale, near}
 use Rattle.samr_sign.specs.Counts.{cell_at, weigh, tally}
 use Rattle.samr_sign.proofs.Tallies.{weigh_member, cell_Holds}
-use Rattle.samr_tags.specs.Tagging.{some_near}
+use Rattle.samr_tags.specs.Buffer.{some_near}
 
 -- a member that passes a test
 pub any_member : {X : Type 0} (p : X → Bool) (x : X) (xs : List X) → Member x xs → p x ≡ true → list_any p xs ≡ true

@@ -1,9 +1,12 @@
-pub mod Tagging
+pub mod Buffer
 pub mod Seeing
 pub mod Marking
-pub mod Telling
-pub mod Covering
-pub mod Covers
+pub mod BufferRow
+pub mod BufferParts
+pub mod BufferOnAll
+pub mod Cover
+pub mod CoverRow
+pub mod CoverParts
 pub mod Rooms
-pub mod AllCovers
+pub mod CoverOnAll
 pub mod StageLaws

@@ -6,7 +6,7 @@ use Rattle.samr_box.specs.Corners.{Corners}
 use Rattle.samr_box.specs.Space.{Space}
 use Rattle.samr_level.specs.Refs.{Link}
 use Rattle.samr_tags.specs.declared.needs.Needs.{Needs}
-use Rattle.samr_tags.specs.Covers.{HasRoom}
+use Rattle.samr_tags.specs.CoverRow.{HasRoom}
 
 -- from -2^28 to 2^28 on each axis
 abbrev pub IsSmall : IVec → Type 0

@@ -1,10 +1,10 @@
 -- Letters of the stages go between two different ranks.
 use Rattle.std.specs.Prelude.{◌≢◌, ℕ, ◌<◌, is_some, IsTrue}
 use Rattle.samr_peers.specs.PeerLaws.{peer_between}
-use Rattle.samr_tags.specs.Tagging.{Tagging, selves}
-use Rattle.samr_tags.specs.Telling.{told_by, buffer_row}
-use Rattle.samr_tags.specs.Covering.{Covering, downs}
-use Rattle.samr_tags.specs.Covers.{needed_by, cover_row}
+use Rattle.samr_tags.specs.Buffer.{Tagging, selves}
+use Rattle.samr_tags.specs.BufferRow.{told_by, buffer_row}
+use Rattle.samr_tags.specs.Cover.{Covering, downs}
+use Rattle.samr_tags.specs.CoverRow.{needed_by, cover_row}
 
 pub buffer_between : (w : Tagging) (from to : ℕ) → IsTrue (is_some (buffer_row w from to)) → (from < w.ranks) × (to < w.ranks) × (from ≢ to)
 unfolding buffer_row

@@ -1,14 +1,19 @@
+//! The stage that tags a level by its shapes, with the cells within the tag buffer.
+
 ghost use Rattle.std.specs.Prelude.{◌≡◌, ℕ, IfOk, OnOk, pos, map};
 ghost use Rattle.std.specs.List.{All};
 ghost use Rattle.samr_box.specs.declared.vector.IVec.{IVec as Cell};
 ghost use Rattle.samr_box.specs.Vector.{alike, AtMost, InRange};
 ghost use Rattle.samr_box.specs.Corners.{Holds};
 ghost use Rattle.samr_box.specs.Space.{IsSpace, finer};
+ghost use Rattle.samr_level.specs.Levels.{own_boxes};
+ghost use Rattle.samr_sign.specs.Fields.{AreTags};
 ghost use Rattle.samr_stage.specs.declared.stage.Held.{Held};
 ghost use Rattle.samr_stage.specs.Row.{heard, column};
 ghost use Rattle.samr_peers.specs.PeerLaws.{heavy};
-ghost use Rattle.samr_tags.specs.Tagging.{Tagging, IsTagging, tags_of};
-ghost use Rattle.samr_tags.specs.Telling.{buffer_row, own_boxes, AreTags, HasSelves, HasSeen};
+ghost use Rattle.samr_tags.specs.Buffer.{Tagging, IsTagging, tags_of};
+ghost use Rattle.samr_tags.specs.BufferRow.{buffer_row};
+ghost use Rattle.samr_tags.specs.BufferParts.{HasSelves, HasSeen};
 ghost use Rattle.samr_tags.specs.StageLaws.{buffer_between};
 
 use crate::given::Given;
@@ -89,7 +94,7 @@ impl Stage for Buffer {
 
     ghost says = { buffer_row };
 
-    ghost gives = { λ w rank out. IsTagging w → AreTags (own_boxes w.level rank) (tags_of w) out.items };
+    ghost gives = { λ w rank out. IsTagging w → AreTags (own_boxes rank w.level) (tags_of w) out.items };
 
     ghost weight_of = { λ _. 1 };
 
@@ -119,7 +124,7 @@ impl Stage for Buffer {
             × (held.items ≡ heard (column (buffer_row w) rank) w.ranks) }
         ensures { IfOk result (λ out. (w : Tagging) (rank : ℕ)
             → HasSeen self.rank self.frame self.buffer self.boxes.items self.own.items self.peers.items w rank
-            → held.items ≡ heard (column (buffer_row w) rank) w.ranks → IsTagging w → AreTags (own_boxes w.level rank) (tags_of w) out.items) }
+            → held.items ≡ heard (column (buffer_row w) rank) w.ranks → IsTagging w → AreTags (own_boxes rank w.level) (tags_of w) out.items) }
     {
         let fields = all_marked(
             alloc,

@@ -1,3 +1,5 @@
+//! The cells of a box that a shape tags.
+
 ghost use Rattle.std.specs.Prelude.{◌≡◌, ◌++◌, ◌<◌, [], ◌∷◌, cond, OnOk, IfOk, filter};
 ghost use Rattle.samr_box.specs.declared.vector.IVec.{IVec as Cell};
 ghost use Rattle.samr_box.specs.declared.vector.Axis.TheVariants.{I, J, K};

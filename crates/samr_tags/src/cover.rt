@@ -1,12 +1,16 @@
+//! The stage that adds to the tags of a level the cells that a new level two above it needs.
+
 ghost use Rattle.std.specs.Prelude.{◌≡◌, ℕ, IfOk};
 ghost use Rattle.std.specs.List.{All};
 ghost use Rattle.samr_box.specs.Space.{IsSpace, finer};
+ghost use Rattle.samr_level.specs.Levels.{own_boxes};
+ghost use Rattle.samr_sign.specs.Fields.{AreTags};
 ghost use Rattle.samr_stage.specs.declared.stage.Held.{Held};
 ghost use Rattle.samr_stage.specs.Row.{heard, column};
 ghost use Rattle.samr_peers.specs.PeerLaws.{heavy};
-ghost use Rattle.samr_tags.specs.Covering.{Covering, IsCovering, cover_tags};
-ghost use Rattle.samr_tags.specs.Covers.{rule, HasRoom, HasCovers, HasNeeds, cover_row};
-ghost use Rattle.samr_tags.specs.Telling.{own_boxes, AreTags};
+ghost use Rattle.samr_tags.specs.Cover.{Covering, IsCovering, cover_tags};
+ghost use Rattle.samr_tags.specs.CoverRow.{rule, HasRoom, cover_row};
+ghost use Rattle.samr_tags.specs.CoverParts.{HasCovers, HasNeeds};
 ghost use Rattle.samr_tags.specs.StageLaws.{cover_between};
 
 use crate::needs::{Needs, mark_fields, needed_of};
@@ -83,7 +87,7 @@ impl Stage for Cover {
 
     ghost says = { cover_row };
 
-    ghost gives = { λ w rank out. IsCovering w → AreTags (own_boxes w.level rank) (cover_tags w) out.items };
+    ghost gives = { λ w rank out. IsCovering w → AreTags (own_boxes rank w.level) (cover_tags w) out.items };
 
     ghost weight_of = { λ _. 1 };
 
@@ -113,7 +117,7 @@ impl Stage for Cover {
             × (held.items ≡ heard (column (cover_row w) rank) w.ranks) }
         ensures { IfOk result (λ out. (w : Covering) (rank : ℕ)
             → HasNeeds self.rank self.needs self.fields.items self.edges.items self.addressees.items self.senders.items w rank
-            → held.items ≡ heard (column (cover_row w) rank) w.ranks → IsCovering w → AreTags (own_boxes w.level rank) (cover_tags w) out.items) }
+            → held.items ≡ heard (column (cover_row w) rank) w.ranks → IsCovering w → AreTags (own_boxes rank w.level) (cover_tags w) out.items) }
     {
         let own = needed_of(alloc, &self.needs, self.rank, self.edges.as_slice())?;
         let fields = mark_fields(alloc, self.fields, own.as_slice(), held.as_slice())?;

@@ -1,3 +1,5 @@
+//! What a rank is told of its problem: tags and first values of its own cells.
+
 ghost use Rattle.std.specs.Prelude.{◌≡◌, ℕ, Bool};
 ghost use Rattle.samr_box.specs.declared.vector.IVec.{IVec as Cell};
 

@@ -1,11 +1,13 @@
+//! The laws of the tags and of the cover.
+
 ghost use Rattle.std.specs.Prelude.{◌≡◌, ◌↔◌, pos, true};
 ghost use Rattle.samr_box.specs.declared.vector.IVec.{IVec as Cell};
 ghost use Rattle.samr_box.specs.Vector.{alike, AtMost};
 ghost use Rattle.samr_box.specs.Corners.{Holds};
 ghost use Rattle.samr_box.specs.Space.{IsSpace, whole};
-ghost use Rattle.samr_tags.specs.Covering.{Covering, IsCovered, AreNear, frame_of, covered};
+ghost use Rattle.samr_tags.specs.Cover.{Covering, IsCovered, AreNear, frame_of, covered};
 ghost use Rattle.samr_tags.specs.Rooms.{SmallCoversHaveRoom};
-ghost use Rattle.samr_tags.specs.Tagging.{Tagging, IsTagged, tags_of};
+ghost use Rattle.samr_tags.specs.Buffer.{Tagging, IsTagged, tags_of};
 
 /// What the tags of a level are, which is this call's contract; nothing runs.
 ///

@@ -5,11 +5,11 @@
 //! that a new level two above needs below it.
 #![tactic(auto)]
 
-mod all_covers;
-mod all_ranks;
 mod buffer;
+mod buffer_on_all;
 mod cells;
 mod cover;
+mod cover_on_all;
 mod given;
 mod law;
 mod marking;
@@ -18,13 +18,10 @@ mod region;
 mod scan;
 mod seen;
 
-pub use all_covers::cover_all;
-pub use all_ranks::buffer_all;
 pub use buffer::Buffer;
+pub use buffer_on_all::buffer_all;
 pub use cover::Cover;
+pub use cover_on_all::cover_all;
 pub use given::Given;
 pub use law::{cover_law, small_covers_have_room, tags_law};
 pub use seen::Seen;
-
-#[cfg(test)]
-mod tests;

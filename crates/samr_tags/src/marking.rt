@@ -1,3 +1,5 @@
+//! Marking of the cells within the tag buffer of tagged ones.
+
 ghost use Rattle.std.specs.Prelude.{◌≡◌, Bool, ◌&&◌, ◌||◌, pos, IfOk};
 ghost use Rattle.std.specs.List.{All, list_any};
 ghost use Rattle.samr_box.specs.declared.vector.IVec.{IVec as Cell};

@@ -1,9 +1,12 @@
+//! What fine boxes need of the level two below them, and its marking.
+
 ghost use Rattle.std.specs.Prelude.{◌≡◌, ◌&&◌, ◌||◌, nat_eq, IfOk, map, filter};
 ghost use Rattle.std.specs.List.{All, list_any};
 ghost use Rattle.samr_box.specs.declared.vector.IVec.{IVec as Cell};
 ghost use Rattle.samr_box.specs.Corners.{holds, meets};
 ghost use Rattle.samr_sign.specs.Fields.{tagged};
-ghost use Rattle.samr_tags.specs.Covers.{below_head, is_below, needed_of, is_needed, HasRoom, AreAdded};
+ghost use Rattle.samr_tags.specs.CoverRow.{below_head, is_below, needed_of, HasRoom};
+ghost use Rattle.samr_tags.specs.CoverParts.{is_needed, AreAdded};
 
 use samr_box::{Domain, IBox, IVec, Listed, Ratio, boxes_meet, coarsen, grow, meet, shifted};
 use samr_level::Edge;

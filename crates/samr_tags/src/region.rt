@@ -1,3 +1,5 @@
+//! The parts of a box that lie near the image of another, and near a cell.
+
 ghost use Rattle.std.specs.Prelude.{◌≡◌, pos};
 ghost use Rattle.samr_box.specs.Vector.{alike, AtMost, InRange};
 ghost use Rattle.samr_box.specs.Corners.{met};

@@ -1,3 +1,5 @@
+//! What the boxes of a rank have for the boxes near them, by a look at their cells.
+
 ghost use Rattle.std.specs.Prelude.{◌≡◌, List, [], IfOk, filter, map};
 ghost use Rattle.std.specs.List.{All};
 ghost use Rattle.samr_box.specs.declared.vector.IVec.{IVec as Cell};

@@ -1,3 +1,5 @@
+//! What ranks tell each other: tagged cells of one box that are near another.
+
 ghost use Rattle.std.specs.Prelude.{◌≡◌, ◌++◌, IfOk, OnOk, nat_eq, filter, map};
 ghost use Rattle.samr_tags.specs.Seeing.{told_to};
 

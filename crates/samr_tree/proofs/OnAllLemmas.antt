@@ -2,7 +2,7 @@
 use Rattle.std.proofs.Common.{◌≡◌, ℕ, ◌+◌, ◌<◌, List, [], ◌∷◌, ◌++◌, length, get_or, sym, ap, ◌∙◌, subst, arith, inl, inr, Some, slice_get, slice_index, sum, All}
 use Rattle.std.proofs.lemmas.Option.{slice_get-get_or, get_or_from_slice_get}
 use Rattle.samr_stage.specs.Exchange.{AreResults}
-use Rattle.samr_stage.proofs.BoxLemmas.{slice_get-push_cases}
+use Rattle.samr_stage.proofs.Mailboxes.{slice_get-push_cases}
 use Rattle.samr_tree.specs.SumUp.{summed}
 use Rattle.samr_tree.specs.TellDown.{informed}
 use Rattle.samr_tree.specs.TreeSum.{rounds_down, sums_at, tellings_at}

@@ -1,3 +1,5 @@
+//! The numbers that the ranks of a run add up.
+
 ghost use Rattle.std.specs.Prelude.{◌≡◌, ℕ, ◌<◌, ◌↔◌, List, length, IsTrue, IfOk, slice_index};
 ghost use Rattle.std.specs.Arc.{arc_value};
 ghost use Rattle.samr_tree.specs.TreeSum.{AreSummable};

@@ -1,3 +1,5 @@
+//! The sum on all ranks, round by round, on one thread.
+
 ghost use Rattle.std.specs.Prelude.{◌≡◌, ◌+◌, length, sum, All, IfOk};
 ghost use Rattle.samr_tree.specs.TreeSum.{AreSummable, rounds_up, sums_at, tellings_at};
 ghost use Rattle.samr_tree.specs.OnAll.{AreNumbers};
@@ -110,6 +112,3 @@ fn go_down_once(
     let after = exchange(alloc, stages)?;
     Ok(after)
 }
-
-#[cfg(test)]
-mod tests;

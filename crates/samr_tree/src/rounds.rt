@@ -1,3 +1,5 @@
+//! Which rounds of going up and of going down a rank visits.
+
 ghost use Rattle.std.specs.Prelude.{◌≡◌, ℕ, ◌+◌, ◌<◌, false, List, length, sum, IfSome, IfNone};
 ghost use Rattle.std.specs.Option.{ForSome, option_map_or};
 ghost use Rattle.samr_tree.specs.Tree.{bottom, tells_up, told_down};

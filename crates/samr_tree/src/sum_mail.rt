@@ -1,3 +1,5 @@
+//! The letters of a sum over all ranks, and how the two stages stand in them.
+
 ghost use Rattle.std.specs.Prelude.{◌≡◌, ◌↔◌, ℕ, Some, IsTrue};
 ghost use Rattle.std.proofs.Props.{props};
 ghost use Rattle.samr_tree.specs.TreeSum.{tree_course};

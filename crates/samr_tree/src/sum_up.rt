@@ -1,3 +1,5 @@
+//! The stage of one round of a sum up the tree.
+
 ghost use Rattle.std.specs.Prelude.{◌≡◌, ℕ, ◌<◌, ◌^◌, IsOk, IfOk, if◌then◌else◌};
 ghost use Rattle.std.specs.Option.{ForSome, option_map_or};
 ghost use Rattle.samr_stage.specs.declared.stage.Held.{Held};

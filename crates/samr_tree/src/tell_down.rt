@@ -1,3 +1,5 @@
+//! The stage of one round of telling a number down the tree.
+
 ghost use Rattle.std.specs.Prelude.{◌≡◌, ℕ, ◌<◌, ◌++◌, [], ◌∷◌, Some, None, IsOk, IfOk, OnOk, if◌then◌else◌};
 ghost use Rattle.std.specs.Option.{ForSome, option_map_or};
 ghost use Rattle.samr_stage.specs.Row.{heard, column};

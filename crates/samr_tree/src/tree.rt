@@ -1,3 +1,5 @@
+//! Parents, children and depths in the tree of the ranks, and whose turn it is in a round.
+
 ghost use Rattle.std.specs.Prelude.{◌≡◌, ◌+◌, ◌<◌, Some, None, nat_lt, if◌then◌else◌};
 ghost use Rattle.samr_tree.specs.Tree.{parent, first_child, second_child, depth, tells_up, told_down};
 
@@ -63,28 +65,4 @@ pub fn told_down(rank: u16, ranks: u16, round: u32) -> bool
     ensures { result ≡ told_down ranks round rank }
 {
     rank > 0 && depth(rank) - 1 == round
-}
-
-#[cfg(test)]
-mod tests {
-    use super::*;
-
-    #[test]
-    fn six_ranks(rt: HostRuntime) {
-        let rows = [
-            (0, None, (Some(1), Some(2)), 0),
-            (1, Some(0), (Some(3), Some(4)), 1),
-            (2, Some(0), (Some(5), None), 1),
-            (3, Some(1), (None, None), 2),
-            (4, Some(1), (None, None), 2),
-            (5, Some(2), (None, None), 2),
-        ];
-        for (rank, above, below, deep) in rows {
-            assert_eq!(rt; parent(rank), above, "parent of {rank}");
-            assert!(rt; children(rank, 6) == below, "children of {rank}");
-            assert_eq!(rt; depth(rank), deep, "depth of {rank}");
-        }
-        assert!(rt; children(u16::MAX, u16::MAX) == (None, None));
-        assert_eq!(rt; depth(u16::MAX), 16);
-    }
 }

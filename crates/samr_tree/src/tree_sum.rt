@@ -1,3 +1,5 @@
+//! The program of one rank of a sum over all ranks.
+
 ghost use Rattle.std.specs.Prelude.{◌≡◌, ◌+◌, ◌<◌, ◌≤◌, Bool, false, length, sum, map, IsSome, IfSome, IsOk, IfOk, OnOk, ◌↔◌};
 ghost use Rattle.std.specs.Arc.{arc_value};
 ghost use Rattle.samr_stage.specs.Course.{IsOver, awaited};

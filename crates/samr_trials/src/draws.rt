@@ -1,3 +1,5 @@
+//! Drawn events, and the draws of a world.
+
 ghost use Rattle.std.specs.Prelude.{◌≡◌, ◌<◌, ℕ, length, vec_len, IfOk};
 
 use rand_core::Rng;

@@ -1,3 +1,5 @@
+//! Worlds of sums over all ranks, and the numbers that they add up.
+
 ghost use Rattle.std.specs.Prelude.{◌≡◌, ◌+◌, ◌*◌, ◌<◌, ◌≤◌, length, sum, false, IfOk};
 ghost use Rattle.samr_world.specs.World.{IsTeam};
 ghost use Rattle.samr_tree.specs.TreeSum.{AreSummable};

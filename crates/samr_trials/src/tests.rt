@@ -1,3 +1,5 @@
+//! Sums over all ranks: machines by hand, worlds event by event, and drawn lists of events.
+
 ghost use Rattle.std.specs.Prelude.{◌<◌, length};
 ghost use Rattle.samr_tree.specs.TreeSum.{AreSummable};
 

@@ -6,9 +6,9 @@ use Rattle.std.specs.Prelude.{List, []}
 use Rattle.samr_data.specs.Grids.{Grid}
 use Rattle.samr_sched.specs.declared.plan.Plan.{Plan}
 use Rattle.samr_ops.specs.declared.rules.Rules.{Rules}
-use Rattle.samr_fill.specs.Filling.{Filling}
+use Rattle.samr_fill.specs.Fill.{Filling}
 use Rattle.samr_fill.specs.FillParts.{HasPatches}
-use Rattle.samr_fill.specs.AllFills.{HaveAllPatches}
+use Rattle.samr_fill.specs.FillOnAll.{HaveAllPatches}
 use Rattle.samr_trials_fills.specs.Plans.{ArePlans}
 
 module _ (plans : List Plan) (own below : List (List (List Grid))) (rules : List Rules) (w : Filling) (h : HaveAllPatches plans own below rules w) where

@@ -27,11 +27,11 @@ use Rattle.samr_level.proofs.Level0Laws.{IsLevel-level0, cells-level0}
 use Rattle.samr_level.proofs.FinerAreas.{IsArea-finer}
 use Rattle.samr_level.proofs.Reaches.{rounded_up-least}
 use Rattle.samr_nest.proofs.EdgeImages.{times_one, refined_one}
-use Rattle.samr_sched.specs.Scheduling.{IsScheduling, IsSourced, IsGhost}
-use Rattle.samr_sched.specs.Asking.{CanPlan}
-use Rattle.samr_sched.specs.AllAsking.{HaveAllLevels}
+use Rattle.samr_sched.specs.Ask.{IsScheduling, IsSourced, IsGhost}
+use Rattle.samr_sched.specs.AskParts.{CanPlan}
+use Rattle.samr_sched.specs.AskOnAll.{HaveAllLevels}
 use Rattle.samr_ops.specs.declared.rules.Rules.{Rules}
-use Rattle.samr_fill.specs.Filling.{IsFilling}
+use Rattle.samr_fill.specs.Fill.{IsFilling}
 use Rattle.samr_trials_levels.specs.Kept.{kept}
 use Rattle.samr_trials_levels.specs.First.{HasRoom, HasRooms}
 use Rattle.samr_trials_levels.specs.Cover.{fine_start, coarse_start, fine_blocks}

@@ -14,7 +14,7 @@ use Rattle.samr_sched.specs.declared.plan.Plan.{Plan}
 use Rattle.samr_sched.specs.Plans.{plan_of}
 use Rattle.samr_ops.specs.declared.rules.Rules.{Rules}
 use Rattle.samr_fill.specs.FillParts.{HasValues}
-use Rattle.samr_fill.specs.AllFills.{HaveAllPatches}
+use Rattle.samr_fill.specs.FillOnAll.{HaveAllPatches}
 use Rattle.samr_fill.proofs.Numbered.{some_same, none_some}
 use Rattle.samr_trials_levels.specs.First.{first_value, first_patch, first_field, first_fields, all_first, HasRooms}
 use Rattle.samr_trials_levels.specs.Cover.{fine_start, coarse_start}

@@ -11,9 +11,9 @@ use Rattle.samr_level.specs.Levels.{IsLevel, IsCellIn}
 use Rattle.samr_level.specs.Regions.{Area, IsArea, IsCellOf, boxes_of, finer_area}
 use Rattle.samr_level.specs.Blocks.{IsBlocking, level0}
 use Rattle.samr_nest.specs.Nested.{IsPlain}
-use Rattle.samr_sched.specs.Scheduling.{Scheduling}
+use Rattle.samr_sched.specs.Ask.{Scheduling}
 use Rattle.samr_ops.specs.declared.rules.Rules.{Rules}
-use Rattle.samr_fill.specs.Filling.{Filling}
+use Rattle.samr_fill.specs.Fill.{Filling}
 use Rattle.samr_trials_levels.specs.Kept.{kept}
 use Rattle.samr_trials_levels.specs.First.{first_value, HasRooms}
 use Rattle.samr_trials_levels.specs.Cover.{fine_start, coarse_start, fine_blocks, CanCompare, AreFields, CanRefine}

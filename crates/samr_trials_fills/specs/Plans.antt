@@ -1,7 +1,7 @@
 -- The plans of all ranks.
 use Rattle.std.specs.Prelude.{◌≡◌, ℕ, ◌<◌, ◌^◌, List, length, slice_get, Some}
 use Rattle.samr_sched.specs.declared.plan.Plan.{Plan}
-use Rattle.samr_sched.specs.Scheduling.{Scheduling, IsScheduling}
+use Rattle.samr_sched.specs.Ask.{Scheduling, IsScheduling}
 use Rattle.samr_sched.specs.Plans.{plan_of}
 
 -- the plan of a rank

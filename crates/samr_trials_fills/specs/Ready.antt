@@ -1,8 +1,8 @@
 -- What ranks have before a fill.
 use Rattle.std.specs.Prelude.{◌<◌, ◌^◌, List, length}
 use Rattle.samr_ops.specs.declared.rules.Rules.{Rules}
-use Rattle.samr_fill.specs.Filling.{Filling}
-use Rattle.samr_fill.specs.AllFills.{HaveAllPatches}
+use Rattle.samr_fill.specs.Fill.{Filling}
+use Rattle.samr_fill.specs.FillOnAll.{HaveAllPatches}
 use Rattle.samr_trials_fills.specs.declared.prepared.Prepared.{Prepared}
 
 -- the plans and patches of all ranks are those of a whole fill

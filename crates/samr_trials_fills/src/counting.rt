@@ -1,9 +1,11 @@
+//! How many ghost cells have which origin, on all ranks.
+
 ghost use Rattle.std.specs.Prelude.{◌≡◌, IfOk, List, length};
 ghost use Rattle.samr_stage.specs.Exchange.{AreResults};
-ghost use Rattle.samr_sched.specs.Scheduling.{Scheduling};
+ghost use Rattle.samr_sched.specs.Ask.{Scheduling};
 ghost use Rattle.samr_sched.specs.PlanRows.{rows_of};
 ghost use Rattle.samr_ops.specs.declared.rules.Rules.{Rules as RulesOf};
-ghost use Rattle.samr_fill.specs.Filling.{Filling};
+ghost use Rattle.samr_fill.specs.Fill.{Filling};
 ghost use Rattle.samr_trials_fills.specs.Plans.{ArePlans};
 ghost use Rattle.samr_trials_fills.specs.Ready.{AreReady};
 

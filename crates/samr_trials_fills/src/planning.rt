@@ -1,9 +1,11 @@
+//! The plans of a level on all ranks.
+
 ghost use Rattle.std.specs.Prelude.{◌≡◌, ◌<◌, ◌^◌, pos, [], IfOk, length, map};
 ghost use Rattle.std.specs.List.{range_with_len};
 ghost use Rattle.samr_box.specs.Vector.{alike, InRange};
 ghost use Rattle.samr_level.specs.Pairs.{part};
 ghost use Rattle.samr_stage.specs.Exchange.{AreResults};
-ghost use Rattle.samr_sched.specs.Asking.{CanPlan};
+ghost use Rattle.samr_sched.specs.AskParts.{CanPlan};
 ghost use Rattle.samr_sched.specs.Plans.{plan_of};
 ghost use Rattle.samr_trials_levels.specs.Cover.{CanCompare};
 ghost use Rattle.samr_trials_fills.specs.Fills.{schedule_of};

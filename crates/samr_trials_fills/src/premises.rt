@@ -1,3 +1,5 @@
+//! Tests of what a fill asks of its numbers.
+
 ghost use Rattle.std.specs.Prelude.{◌≡◌, ◌<◌, false, true, IsTrue, IfOk, [], length, map};
 ghost use Rattle.std.specs.List.{All};
 ghost use Rattle.samr_box.specs.declared.vector.Axis.{Axis as AxisOf};

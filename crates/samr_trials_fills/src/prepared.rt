@@ -1,3 +1,5 @@
+//! What all ranks have before a fill.
+
 ghost use Rattle.std.specs.Prelude.{◌≡◌, IfOk, IfSome};
 ghost use Rattle.std.specs.List.{All};
 ghost use Rattle.samr_level.specs.Regions.{finer_area};

@@ -1,10 +1,12 @@
+//! A fill on all ranks, by the rules of the fields.
+
 ghost use Rattle.std.specs.Prelude.{◌≡◌, ◌*◌, ◌<◌, IfOk, length};
 ghost use Rattle.std.specs.List.{All};
 ghost use Rattle.samr_stage.specs.Exchange.{AreResults};
 ghost use Rattle.samr_ops.specs.declared.rules.Rules.{Rules as RulesOf};
 ghost use Rattle.samr_ops.specs.Rules.{IsRules, IsOffset, refined_value, edge_of, updated_value};
 ghost use Rattle.samr_ops.specs.Kept.{KeepsRefine, KeepsBoundary, KeepsUpdate};
-ghost use Rattle.samr_fill.specs.Filling.{Filling};
+ghost use Rattle.samr_fill.specs.Fill.{Filling};
 ghost use Rattle.samr_fill.specs.FillParts.{filled};
 ghost use Rattle.samr_trials_fills.specs.Ready.{AreReady};
 

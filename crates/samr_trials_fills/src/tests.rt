@@ -1,7 +1,9 @@
+//! Fills of level 0 and of levels over it, each cell against a plain look.
+
 ghost use Rattle.std.specs.List.{All};
 ghost use Rattle.std.specs.Prelude.{IfOk, IfSome};
 ghost use Rattle.samr_ops.specs.Rules.{IsRules};
-ghost use Rattle.samr_fill.specs.Filling.{Filling};
+ghost use Rattle.samr_fill.specs.Fill.{Filling};
 ghost use Rattle.samr_trials_fills.specs.Ready.{AreReady};
 
 use crate::plain::{BOUND, Plain, right_fill};

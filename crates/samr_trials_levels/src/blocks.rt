@@ -1,3 +1,5 @@
+//! Some blocks of a level, and the boxes of each rank.
+
 ghost use Rattle.std.specs.Prelude.{◌≡◌, ◌++◌, IfOk, OnOk, map};
 ghost use Rattle.std.specs.List.{range_with_len};
 ghost use Rattle.samr_level.specs.Levels.{own};

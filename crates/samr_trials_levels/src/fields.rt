@@ -1,3 +1,5 @@
+//! The strategies of fields, from their rules.
+
 ghost use Rattle.std.specs.Prelude.{◌≡◌, IfOk};
 ghost use Rattle.std.specs.List.{All};
 ghost use Rattle.samr_ops.specs.declared.rules.Rules.{Rules as RulesOf};

@@ -1,3 +1,5 @@
+//! The overlaps of two levels on all ranks, by a look at every two boxes.
+
 ghost use Rattle.std.specs.Prelude.{◌≡◌, ◌⊎◌, pos, [], IsTrue, IfOk, map};
 ghost use Rattle.std.specs.List.{range_with_len};
 ghost use Rattle.samr_box.specs.Vector.{alike, InRange, greatest, IsRatio};

@@ -1,3 +1,5 @@
+//! Tests of what a whole run asks of its numbers.
+
 ghost use Rattle.std.specs.Prelude.{◌≡◌, ◌<◌, ◌≤◌, ◌^◌, pos, IsTrue, IfOk, IfSome, map};
 ghost use Rattle.std.specs.List.{All};
 ghost use Rattle.samr_box.specs.Vector.{alike, AtMost, InRange};

@@ -1,3 +1,5 @@
+//! The first values of all cells, and the patches of all ranks that have them.
+
 ghost use Rattle.std.specs.Prelude.{◌≡◌, ◌<◌, pos, IfOk, Some, length, slice_get};
 ghost use Rattle.std.specs.List.{All};
 ghost use Rattle.samr_box.specs.Vector.{alike, AtMost};

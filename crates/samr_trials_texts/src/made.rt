@@ -1,4 +1,5 @@
 //! The problems that are made of a seed and a size, as texts and read back.
+
 ghost use Rattle.std.specs.Prelude.{◌≤◌};
 
 use samr_generate::{make_problem, make_text};

@@ -1,3 +1,5 @@
+//! An alarm that is always heard.
+
 use samr_drive::Alarm;
 
 /// An alarm that is heard at every call.

@@ -1,3 +1,5 @@
+//! A sum of which one rank finds no memory while the others sleep.
+
 ghost use Rattle.std.specs.Prelude.{◌≡◌, ◌+◌, ◌<◌, length, true, false, IfOk, OnOk, map};
 ghost use Rattle.std.specs.Arc.{arc_value};
 ghost use Rattle.samr_stage.specs.Course.{IsOver, awaited, label_at};

@@ -1,3 +1,5 @@
+//! A gate that holds each rank until all have come.
+
 use samr_drive::Gate;
 use std::sync::atomic::{AtomicBool, AtomicU32, Ordering};
 use std::thread;

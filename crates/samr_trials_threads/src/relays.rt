@@ -1,3 +1,5 @@
+//! The programs of relays: floods of letters, and rings.
+
 ghost use Rattle.std.specs.Prelude.{◌≡◌, IfOk};
 ghost use Rattle.samr_world.specs.World.{IsTeam};
 ghost use Rattle.samr_relay.specs.Relay.{IsRelay};

@@ -1,3 +1,5 @@
+//! The programs of sums over all ranks, and letters of one sum that are strange to another.
+
 ghost use Rattle.std.specs.Prelude.{◌≡◌, ◌+◌, ◌*◌, ◌<◌, ◌≤◌, [], ◌∷◌, length, sum, IfOk};
 ghost use Rattle.samr_world.specs.World.{IsTeam};
 ghost use Rattle.samr_tree.specs.TreeSum.{AreSummable};

@@ -1,3 +1,5 @@
+//! Whole runs in threads: drivers, gates, odd letters, full inboxes, sleep, and want of memory.
+
 ghost use Rattle.std.specs.Prelude.{◌≡◌, ◌<◌, length};
 ghost use Rattle.samr_tree.specs.TreeSum.{AreSummable};
 

@@ -15,8 +15,8 @@ use Rattle.samr_level.specs.Regions.{Area, finer_area}
 use Rattle.samr_level.specs.Blocks.{level0}
 use Rattle.samr_data.specs.Grids.{Grid}
 use Rattle.samr_ops.specs.declared.rules.CoarsenRule.{CoarsenRule}
-use Rattle.samr_values.specs.Coarsening.{IsCoarsening, IsRefinement}
-use Rattle.samr_values.specs.AllCoarsenings.{HaveAllFine}
+use Rattle.samr_values.specs.Coarsen.{IsCoarsening, IsRefinement}
+use Rattle.samr_values.specs.CoarsenOnAll.{HaveAllFine}
 use Rattle.samr_trials_levels.specs.Kept.{kept}
 use Rattle.samr_trials_levels.specs.First.{first_fields, all_first}
 use Rattle.samr_trials_levels.specs.Cover.{fine_start, coarse_start, fine_blocks}

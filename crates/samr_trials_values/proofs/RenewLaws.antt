@@ -16,9 +16,9 @@ use Rattle.samr_level.specs.Regions.{Area, finer_area}
 use Rattle.samr_level.specs.Blocks.{level0}
 use Rattle.samr_data.specs.Grids.{Grid}
 use Rattle.samr_ops.specs.declared.rules.Rules.{Rules}
-use Rattle.samr_values.specs.Renewing.{IsRenewing}
-use Rattle.samr_values.specs.Renewals.{KnowsOld}
-use Rattle.samr_values.specs.AllValues.{HaveAllOld}
+use Rattle.samr_values.specs.Values.{IsRenewing}
+use Rattle.samr_values.specs.ValuesParts.{KnowsOld}
+use Rattle.samr_values.specs.ValuesOnAll.{HaveAllOld}
 use Rattle.samr_trials_levels.specs.Kept.{kept}
 use Rattle.samr_trials_levels.specs.First.{first_fields, all_first, HasRoom}
 use Rattle.samr_trials_levels.specs.Cover.{fine_start, coarse_start, fine_blocks, CanRefine}

@@ -10,7 +10,7 @@ use Rattle.samr_level.specs.Levels.{own}
 use Rattle.samr_level.specs.Regions.{Area}
 use Rattle.samr_level.specs.Blocks.{level0}
 use Rattle.samr_ops.specs.declared.rules.CoarsenRule.{CoarsenRule}
-use Rattle.samr_values.specs.Coarsening.{Coarsening, IsCoarsening, IsRefinement}
+use Rattle.samr_values.specs.Coarsen.{Coarsening, IsCoarsening, IsRefinement}
 use Rattle.samr_trials_levels.specs.Kept.{kept}
 use Rattle.samr_trials_levels.specs.First.{first_value, first_fields, HasRooms}
 use Rattle.samr_trials_levels.specs.Cover.{fine_start, coarse_start, fine_blocks, CanCompare, CanCover, CanHold}

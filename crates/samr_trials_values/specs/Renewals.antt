@@ -8,7 +8,7 @@ use Rattle.samr_level.specs.Refs.{Owned}
 use Rattle.samr_level.specs.Regions.{Area}
 use Rattle.samr_level.specs.Blocks.{level0}
 use Rattle.samr_ops.specs.declared.rules.Rules.{Rules}
-use Rattle.samr_values.specs.Renewing.{Renewing, IsRenewing}
+use Rattle.samr_values.specs.Values.{Renewing, IsRenewing}
 use Rattle.samr_trials_levels.specs.Kept.{kept}
 use Rattle.samr_trials_levels.specs.First.{first_value, HasRooms}
 use Rattle.samr_trials_levels.specs.Cover.{fine_start, coarse_start, fine_blocks, CanCompare}

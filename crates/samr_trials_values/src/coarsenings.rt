@@ -1,7 +1,9 @@
+//! Coarsening into level 0, as a whole run.
+
 ghost use Rattle.std.specs.Prelude.{◌≡◌, IfOk, IfSome, length};
 ghost use Rattle.samr_stage.specs.Exchange.{AreResults};
 ghost use Rattle.samr_level.specs.Regions.{finer_area};
-ghost use Rattle.samr_values.specs.Coarsening.{coarsened_patches};
+ghost use Rattle.samr_values.specs.Coarsen.{coarsened_patches};
 ghost use Rattle.samr_trials_values.specs.Coarsenings.{coarsening, coarsening_of, CanCoarsen, CanCoarsenOver};
 
 use crate::merges::can_coarsen;

@@ -1,3 +1,5 @@
+//! Tests of what a coarsening asks of its numbers.
+
 ghost use Rattle.std.specs.Prelude.{◌≡◌, ◌<◌, ◌^◌, pos, IsTrue, IfOk};
 ghost use Rattle.std.specs.List.{All};
 ghost use Rattle.samr_box.specs.Vector.{alike, AtMost};
@@ -5,7 +7,7 @@ ghost use Rattle.samr_box.specs.Corners.{IsBox, cells_of};
 ghost use Rattle.samr_box.specs.Space.{IsSpace, finer};
 ghost use Rattle.samr_level.specs.Regions.{finer_area};
 ghost use Rattle.samr_values.specs.Parcels.{same_box};
-ghost use Rattle.samr_values.specs.Coarsening.{IsRefinement};
+ghost use Rattle.samr_values.specs.Coarsen.{IsRefinement};
 ghost use Rattle.samr_trials_levels.specs.Cover.{CanCover, CanHold};
 ghost use Rattle.samr_trials_values.specs.Coarsenings.{AreMerges, CanCoarsen};
 

@@ -1,7 +1,9 @@
+//! The values of a new level of blocks, as a whole run.
+
 ghost use Rattle.std.specs.Prelude.{◌≡◌, IfOk, IfSome, length};
 ghost use Rattle.samr_stage.specs.Exchange.{AreResults};
 ghost use Rattle.samr_level.specs.Regions.{finer_area};
-ghost use Rattle.samr_values.specs.Renewing.{renewed};
+ghost use Rattle.samr_values.specs.Values.{renewed};
 ghost use Rattle.samr_trials_levels.specs.Cover.{CanRefine};
 ghost use Rattle.samr_trials_values.specs.Renewals.{renewing, renewing_of, CanRenewOver};
 

@@ -1,10 +1,12 @@
+//! The values of a new level on all ranks, by the rules of the fields.
+
 ghost use Rattle.std.specs.Prelude.{◌≡◌, ◌*◌, ◌<◌, IfOk, IfSome, length};
 ghost use Rattle.std.specs.List.{All};
 ghost use Rattle.samr_stage.specs.Exchange.{AreResults};
 ghost use Rattle.samr_ops.specs.declared.rules.Rules.{Rules as RulesOf};
 ghost use Rattle.samr_ops.specs.Rules.{IsRules, IsOffset, refined_value, edge_of, updated_value};
 ghost use Rattle.samr_ops.specs.Kept.{KeepsRefine, KeepsBoundary, KeepsUpdate};
-ghost use Rattle.samr_values.specs.Renewing.{renewed};
+ghost use Rattle.samr_values.specs.Values.{renewed};
 ghost use Rattle.samr_trials_values.specs.Renewals.{renewing};
 
 use crate::renewals::renew;

@@ -1,3 +1,5 @@
+//! New levels and coarsened ones, each cell against a plain look.
+
 ghost use Rattle.std.specs.Prelude.{IfOk};
 ghost use Rattle.std.specs.List.{All};
 ghost use Rattle.samr_ops.specs.Rules.{IsRules};

@@ -11,7 +11,7 @@ use Rattle.samr_data.specs.Grids.{Grid}
 use Rattle.samr_data.specs.declared.parcel.Parcel.{Parcel}
 use Rattle.samr_values.specs.declared.merging.Merge.{Merge}
 use Rattle.samr_values.specs.Patches.{HasField, HaveFields}
-use Rattle.samr_values.specs.Renewals.{leads_to}
+use Rattle.samr_values.specs.ValuesRow.{leads_to}
 use Rattle.samr_values.specs.Merging.{merged_along, merged_to, CanMerge}
 
 -- the patches of a field

@@ -32,7 +32,7 @@ use Rattle.samr_ops.specs.declared.rules.CoarsenRule.TheVariants.{First}
 use Rattle.samr_ops.specs.Rules.{coarsened_value}
 use Rattle.samr_values.specs.declared.merging.Merge.{Merge}
 use Rattle.samr_values.specs.Patches.{HasField}
-use Rattle.samr_values.specs.Coarsening.{IsRefinement}
+use Rattle.samr_values.specs.Coarsen.{IsRefinement}
 use Rattle.samr_values.specs.Merging.{merged_by, merge_of, merges}
 use Rattle.samr_values.proofs.Ranges.{refined_full}
 use Rattle.samr_values.proofs.Written.{inside_over}

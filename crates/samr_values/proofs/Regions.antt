@@ -23,9 +23,9 @@ use Rattle.samr_ops.specs.Rules.{IsRules}
 use Rattle.samr_data.specs.declared.parcel.Parcel.{Parcel}
 use Rattle.samr_values.specs.Patches.{has}
 use Rattle.samr_values.specs.Parcels.{IsParcel}
-use Rattle.samr_values.specs.Renewing.{Renewing, IsRenewing}
+use Rattle.samr_values.specs.Values.{Renewing, IsRenewing}
 use Rattle.samr_values.proofs.Under.{any_is, met_some}
-use Rattle.samr_values.proofs.Sent.{IsOld, IsCoarse, old_edge, coarse_edge}
+use Rattle.samr_values.proofs.ValuesRowLaws.{IsOld, IsCoarse, old_edge, coarse_edge}
 
 -- a coarsened box has no more cells
 narrower : (s low high : ℤ) → pos 1 ≤ℤ s → low ≤ℤ high → (floor high s -ℤ floor low s) ≤ℤ (high -ℤ low)

@@ -27,15 +27,15 @@ use Rattle.samr_peers.proofs.PeerRows.{heard_in, heard_out}
 use Rattle.samr_data.specs.declared.parcel.Parcel.{Parcel}
 use Rattle.samr_values.specs.Patches.{has, child}
 use Rattle.samr_values.specs.Parcels.{IsParcel, is_for, same_box, has_fine, has_coarse, is_told, is_told_under, Tell, Refinable, Tells}
-use Rattle.samr_values.specs.Renewing.{Renewing, IsRenewing, new_value, old_ups, coarse_ups, downs}
-use Rattle.samr_values.specs.Renewals.{leads_to, parcel_of, parcels, sends, hears, values_row}
+use Rattle.samr_values.specs.Values.{Renewing, IsRenewing, new_value, old_ups, coarse_ups, downs}
+use Rattle.samr_values.specs.ValuesRow.{leads_to, parcel_of, parcels, sends, hears, values_row}
 use Rattle.samr_values.specs.Merging.{parcels_with}
 use Rattle.samr_values.proofs.Written.{not_true}
 use Rattle.samr_values.proofs.Under.{any_is, any_from, some_and, near_above, near_same}
-use Rattle.samr_values.proofs.Telling.{is_for_it, same_number}
-use Rattle.samr_values.proofs.Ends.{own_from}
+use Rattle.samr_values.proofs.CoarsenRowLaws.{is_for_it, same_number}
+use Rattle.samr_values.proofs.CoarsenStage.{own_from}
 use Rattle.samr_values.proofs.Regions.{old_is_parcel, coarse_is_parcel, old_told, coarse_told}
-use Rattle.samr_values.proofs.Sent.{row_is, sends_turn, coarse_turn, IsOld, IsCoarse, from_parcels, old_in, coarse_in}
+use Rattle.samr_values.proofs.ValuesRowLaws.{row_is, sends_turn, coarse_turn, IsOld, IsCoarse, from_parcels, old_in, coarse_in}
 
 module _ (w : Renewing) (t : IsRenewing w) where
   -- a cell of a rank's new box that the old level has is in a parcel for that box

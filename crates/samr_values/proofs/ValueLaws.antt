@@ -17,8 +17,8 @@ use Rattle.samr_ops.specs.declared.rules.Rules.{Rules}
 use Rattle.samr_ops.specs.Rules.{IsRules, refined_value}
 use Rattle.samr_ops.proofs.Fitting.{refined_values_fit, coarsened_values_fit}
 use Rattle.samr_values.specs.Patches.{has, child}
-use Rattle.samr_values.specs.Renewing.{new_value}
-use Rattle.samr_values.specs.Coarsening.{children, is_under, merged}
+use Rattle.samr_values.specs.Values.{new_value}
+use Rattle.samr_values.specs.Coarsen.{children, is_under, merged}
 use Rattle.samr_values.specs.Laws.{NewValuesFit, MergedValuesFit, OthersKeepTheirs}
 use Rattle.samr_values.proofs.Under.{any_from}
 

@@ -8,8 +8,8 @@ use Rattle.samr_level.specs.Levels.{IsCellIn}
 use Rattle.samr_data.specs.Grids.{Grid, over, value_at}
 use Rattle.samr_ops.specs.declared.rules.CoarsenRule.{CoarsenRule}
 use Rattle.samr_ops.specs.declared.rules.Rules.{Rules}
-use Rattle.samr_values.specs.Renewing.{Renewing, IsRenewing, new_value}
-use Rattle.samr_values.specs.Coarsening.{Coarsening, IsCoarsening, fields, children, is_under, merged, after}
+use Rattle.samr_values.specs.Values.{Renewing, IsRenewing, new_value}
+use Rattle.samr_values.specs.Coarsen.{Coarsening, IsCoarsening, fields, children, is_under, merged, after}
 
 -- the values of a new level are below the modulus of the field, where old ones are
 abbrev pub NewValuesFit : Type 0

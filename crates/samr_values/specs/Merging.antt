@@ -17,8 +17,8 @@ use Rattle.samr_ops.specs.Rules.{coarsened_value}
 use Rattle.samr_data.specs.declared.parcel.Parcel.{Parcel}
 use Rattle.samr_values.specs.declared.merging.Merge.{Merge}
 use Rattle.samr_values.specs.Patches.{AreBased}
-use Rattle.samr_values.specs.Renewals.{leads_to, parcel_of}
-use Rattle.samr_values.specs.Coarsening.{IsRefinement}
+use Rattle.samr_values.specs.ValuesRow.{leads_to, parcel_of}
+use Rattle.samr_values.specs.Coarsen.{IsRefinement}
 
 -- the value of a coarse cell, from the fine values over it
 abbrev pub merged_by : Merge → (IVec → ℕ) → IVec → ℕ

@@ -1,8 +1,8 @@
 -- Letters of the stages go between two different ranks.
 use Rattle.std.specs.Prelude.{◌≢◌, ℕ, ◌<◌, is_some, IsTrue}
 use Rattle.samr_peers.specs.PeerLaws.{peer_between}
-use Rattle.samr_values.specs.Renewing.{Renewing}
-use Rattle.samr_values.specs.Renewals.{sends, parcels, values_row}
+use Rattle.samr_values.specs.Values.{Renewing}
+use Rattle.samr_values.specs.ValuesRow.{sends, parcels, values_row}
 
 pub values_between : (w : Renewing) (from to : ℕ) → IsTrue (is_some (values_row w from to)) → (from < w.ranks) × (to < w.ranks) × (from ≢ to)
 unfolding values_row

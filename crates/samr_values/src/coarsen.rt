@@ -1,3 +1,5 @@
+//! The stage that gives a level the values of the finer one above it.
+
 ghost use Rattle.std.specs.Prelude.{◌≡◌, ℕ, ◌<◌, ◌^◌, List, length, map, IfOk};
 ghost use Rattle.std.specs.List.{All};
 ghost use Rattle.samr_box.specs.declared.vector.IVec.{IVec as Cell};
@@ -10,8 +12,9 @@ ghost use Rattle.samr_level.specs.Refs.{Link};
 ghost use Rattle.samr_peers.specs.PeerLaws.{heavy};
 ghost use Rattle.samr_values.specs.Patches.{HaveFields, AreBased, poured};
 ghost use Rattle.samr_values.specs.Parcels.{IsParcel, is_told, Tell};
-ghost use Rattle.samr_values.specs.Coarsening.{Coarsening, IsRefinement, coarsened_patches};
-ghost use Rattle.samr_values.specs.Coarsenings.{HasFine, HasOwn, HasMerged, coarsen_row};
+ghost use Rattle.samr_values.specs.Coarsen.{Coarsening, IsRefinement, coarsened_patches};
+ghost use Rattle.samr_values.specs.CoarsenRow.{coarsen_row};
+ghost use Rattle.samr_values.specs.CoarsenParts.{HasFine, HasOwn, HasMerged};
 ghost use Rattle.samr_values.specs.Merging.{merged_to, step_of, CanMerge, parcels_with};
 ghost use Rattle.samr_values.specs.CoarsenLaws.{coarsen_between};
 

@@ -1,3 +1,5 @@
+//! The patches of a level with the merged values of the finer one.
+
 ghost use Rattle.std.specs.Prelude.{◌≡◌, ℕ, ◌<◌, ◌^◌, List, length, map, IfOk};
 ghost use Rattle.std.specs.List.{All, enumerate_from};
 ghost use Rattle.samr_box.specs.declared.vector.IVec.{IVec as Cell};

@@ -1,5 +1,7 @@
+//! The laws of new values and of merged ones.
+
 ghost use Rattle.samr_values.specs.Laws.{NewValuesFit, MergedValuesFit, OthersKeepTheirs};
-ghost use Rattle.samr_values.specs.Rows.{ValuesOfRows};
+ghost use Rattle.samr_values.specs.Worked.{ValuesOfRows};
 
 /// The law that the values of a new level are below the modulus of the field.
 pub fn new_values_fit()

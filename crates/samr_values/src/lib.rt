@@ -5,9 +5,8 @@
 //! cell under a finer level gets what the coarsening rule makes of the cells over it.
 #![tactic(auto)]
 
-mod all_coarsenings;
-mod all_values;
 mod coarsen;
+mod coarsen_on_all;
 mod coarsened;
 mod laws;
 mod merging;
@@ -17,13 +16,14 @@ mod renewing;
 mod sending;
 mod update;
 mod values;
+mod values_on_all;
 
-pub use all_coarsenings::coarsen_all;
-pub use all_values::values_all;
 pub use coarsen::Coarsen;
+pub use coarsen_on_all::coarsen_all;
 pub use laws::{merged_values_fit, new_values_fit, others_keep_theirs, values_of_rows};
 pub use update::updated_patches;
 pub use values::Values;
+pub use values_on_all::values_all;
 
 #[cfg(test)]
 mod tests;

@@ -1,3 +1,5 @@
+//! The values that a fine level has for the cells under it, merged by a rule.
+
 ghost use Rattle.std.specs.Prelude.{◌≡◌, ℕ, ◌++◌, ◌<◌, ◌^◌, true, false, List, length, map, IfOk, OnOk, IfSome};
 ghost use Rattle.std.specs.List.{flat_map, filter_map};
 ghost use Rattle.std.specs.List.Sorted.{IsStrictlySortedBy};
@@ -13,8 +15,8 @@ ghost use Rattle.samr_data.specs.Places.{one_cell};
 ghost use Rattle.samr_data.specs.Grids.{value_at};
 ghost use Rattle.samr_data.specs.Values.{listed};
 ghost use Rattle.samr_values.specs.Patches.{HasField, HaveFields, IsBased};
-ghost use Rattle.samr_values.specs.Renewals.{parcel_of};
-ghost use Rattle.samr_values.specs.Coarsening.{IsRefinement};
+ghost use Rattle.samr_values.specs.ValuesRow.{parcel_of};
+ghost use Rattle.samr_values.specs.Coarsen.{IsRefinement};
 ghost use Rattle.samr_values.specs.Merging.{merged_by, merged_along, merged_to, merges, CanMerge};
 
 use crate::packing::{base_of, head_of, leading_to, patch_of};

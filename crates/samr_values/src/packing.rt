@@ -1,3 +1,5 @@
+//! The values that old boxes and coarse ones have for new boxes, as parcels.
+
 ghost use Rattle.std.specs.Prelude.{◌≡◌, ℕ, ◌++◌, true, false, ◌&&◌, nat_eq, List, map, filter, OnOk, IfOk, IfSome};
 ghost use Rattle.std.specs.List.{filter_map};
 ghost use Rattle.std.specs.List.Sorted.{IsStrictlySortedBy};
@@ -9,7 +11,7 @@ ghost use Rattle.samr_box.specs.Orders.{corner_cmp};
 ghost use Rattle.samr_box.specs.Lists.{Member};
 ghost use Rattle.samr_level.specs.Refs.{Link};
 ghost use Rattle.samr_values.specs.Patches.{HasField};
-ghost use Rattle.samr_values.specs.Renewals.{leads_to, parcel_of, old_parcel, coarse_parcel};
+ghost use Rattle.samr_values.specs.ValuesRow.{leads_to, parcel_of, old_parcel, coarse_parcel};
 
 use samr_box::{IBox, Ratio, coarsen, corner_order, meet};
 use samr_data::{Parcel, Patch};

@@ -1,3 +1,5 @@
+//! Writing of parcels into a patch, as they are and refined.
+
 ghost use Rattle.std.specs.Prelude.{◌≡◌, ℕ, true, pos, ◌&&◌, ◌<◌, ◌^◌, ◌↔◌, IsTrue, IfSome, IfNone, List};
 ghost use Rattle.std.specs.List.{All};
 ghost use Rattle.samr_box.specs.declared.vector.IVec.{IVec as Cell};

@@ -1,3 +1,5 @@
+//! The patches of a new level, from parcels.
+
 ghost use Rattle.std.specs.Prelude.{◌≡◌, ℕ, pos, cond, ◌<◌, List, length, map, Some, slice_get, IfOk};
 ghost use Rattle.std.specs.List.{All, enumerate_from};
 ghost use Rattle.samr_box.specs.declared.vector.IVec.{IVec as Cell};

@@ -1,8 +1,10 @@
+//! The parcels that a rank has for another, of old boxes and of coarse ones.
+
 ghost use Rattle.std.specs.Prelude.{◌≡◌, ℕ, ◌++◌, ◌<◌, filter, length, OnOk, IfOk};
 ghost use Rattle.std.specs.List.{flat_map, range_with_len};
 ghost use Rattle.samr_box.specs.declared.vector.IVec.{IVec as Cell};
 ghost use Rattle.samr_values.specs.Patches.{HasField, HaveFields, IsBased, AreBased};
-ghost use Rattle.samr_values.specs.Renewals.{leads_to, field_parcels};
+ghost use Rattle.samr_values.specs.ValuesRow.{leads_to, field_parcels};
 
 use crate::packing::{leading_to, push_coarse, push_old};
 use samr_box::{Listed, Ratio};

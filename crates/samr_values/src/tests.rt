@@ -1,3 +1,5 @@
+//! Tests of merged values for a rank, and of bases of edges.
+
 ghost use Rattle.std.specs.Prelude.{◌≡◌, ◌<◌, ◌∷◌, [], pos, IsTrue, map};
 ghost use Rattle.std.specs.List.{All};
 ghost use Rattle.samr_box.specs.Vector.{alike, AtMost};
@@ -5,7 +7,7 @@ ghost use Rattle.samr_box.specs.Corners.{IsBox};
 ghost use Rattle.samr_box.specs.Lists.{Member};
 ghost use Rattle.samr_values.specs.Patches.{IsBased, AreBased};
 ghost use Rattle.samr_values.specs.Parcels.{same_box};
-ghost use Rattle.samr_values.specs.Coarsening.{IsRefinement};
+ghost use Rattle.samr_values.specs.Coarsen.{IsRefinement};
 ghost use Rattle.samr_values.specs.Merging.{CanMerge};
 
 use crate::merging::{Merge, merged_to};

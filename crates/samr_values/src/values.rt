@@ -1,3 +1,5 @@
+//! The stage that gives a new level its values.
+
 ghost use Rattle.std.specs.Prelude.{◌≡◌, ℕ, ◌++◌, ◌<◌, IfOk, length, map};
 ghost use Rattle.std.specs.List.{flat_map};
 ghost use Rattle.std.specs.Option.{option_map};
@@ -6,9 +8,10 @@ ghost use Rattle.samr_stage.specs.declared.stage.Held.{Held};
 ghost use Rattle.samr_stage.specs.Row.{heard, column};
 ghost use Rattle.samr_peers.specs.PeerLaws.{heavy};
 ghost use Rattle.samr_values.specs.Patches.{HaveFields, AreBased};
-ghost use Rattle.samr_values.specs.Renewing.{Renewing, renewed};
-ghost use Rattle.samr_values.specs.Renewals.{values_row, parcels_by, HasOld, HasEdges, HasPacked, Waits};
-ghost use Rattle.samr_values.specs.Former.{back_edges};
+ghost use Rattle.samr_values.specs.Values.{Renewing, renewed};
+ghost use Rattle.samr_values.specs.ValuesRow.{values_row, parcels_by};
+ghost use Rattle.samr_values.specs.ValuesParts.{HasOld, HasEdges, HasPacked, Waits};
+ghost use Rattle.samr_values.specs.OldLevelEdges.{back_edges};
 ghost use Rattle.samr_values.specs.StageLaws.{values_between};
 
 use crate::renewing::renewed_fields;

@@ -1,3 +1,5 @@
+//! What draws a world's next event.
+
 ghost use Rattle.std.specs.Prelude.{◌<◌};
 
 /// Says which of several events comes next.

@@ -1,3 +1,5 @@
+//! The steps that a world can take.
+
 /// One small step of a world.
 ///
 /// Places count the letters in flight from 0, in the order in which they came there. The last

@@ -1,3 +1,5 @@
+//! The machines and the letters in flight, and what each event makes of them.
+
 ghost use Rattle.std.specs.Prelude.{◌≡◌, ℕ, ◌↔◌, ◌++◌, [], map, All, Bool, true, false, if◌then◌else◌, IsTrue, Some, IfOk, OnOk, IfSome, IfNone, length};
 ghost use Rattle.std.specs.List.{slice_get, range_with_len};
 ghost use Rattle.samr_stage.specs.Machine.{State};

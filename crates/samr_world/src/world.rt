@@ -1,3 +1,5 @@
+//! All ranks of a run in one value, with whether memory was short.
+
 ghost use Rattle.std.specs.Prelude.{◌≡◌, ◌+◌, ◌*◌, ◌↔◌, ◌<◌, ◌≤◌, [], map, length, Bool, true, false, IsTrue, IsErr, IfOk, OnOk, OnErr, IfSome, IfNone};
 ghost use Rattle.samr_world.specs.Events.{IsEnabled, Happens, IsUsual};
 ghost use Rattle.samr_world.specs.Plays.{Played, Runs};
@@ -212,6 +214,3 @@ impl<P: Program> World<P> {
         Ok(())
     }
 }
-
-#[cfg(test)]
-mod tests;

@@ -5,7 +5,7 @@ use Rattle.samr_level.specs.Refs.{Owned}
 use Rattle.samr_level.specs.Levels.{own}
 use Rattle.samr_load.specs.Balanced.{cells_in}
 use Rattle.samr_load.specs.Laws.{boxes_of}
-use Rattle.samr_balance.proofs.AllLemmas.{first_is}
+use Rattle.samr_balance.proofs.OnAllLaws.{first_is}
 use Rattle.samr_balance.proofs.on_all.first_hand.Goals as goal
 
 pub returns : goal.returns

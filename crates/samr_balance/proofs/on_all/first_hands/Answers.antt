@@ -2,7 +2,7 @@ use Rattle.std.proofs.Common.{arith}
 use Rattle.std.specs.Prelude.{unsigned_abs}
 use Rattle.samr_balance.specs.Rounds.{going_up}
 use Rattle.samr_balance.specs.OnAll.{round_at}
-use Rattle.samr_balance.proofs.AllLemmas.{hands_more}
+use Rattle.samr_balance.proofs.OnAllLaws.{hands_more}
 use Rattle.samr_balance.proofs.on_all.first_hands.Goals as goal
 
 pub each-preserved : goal.each-preserved

@@ -2,7 +2,7 @@ use Rattle.std.proofs.Common.{arith, ◌<◌, ◌^◌}
 use Rattle.std.proofs.lemmas.Int.{ints}
 use Rattle.std.specs.Prelude.{unsigned_abs}
 use Rattle.samr_load.specs.Balanced.{cells_in}
-use Rattle.samr_balance.proofs.AllLemmas.{turned}
+use Rattle.samr_balance.proofs.OnAllLaws.{turned}
 use Rattle.samr_balance.proofs.on_all.go_down.Goals as goal
 
 pub each-init : goal.each-init

@@ -3,7 +3,7 @@ use Rattle.std.specs.Prelude.{unsigned_abs}
 use Rattle.samr_tree.proofs.OnAllLemmas.{each_more}
 use Rattle.samr_balance.specs.Rounds.{going_down, IsPart}
 use Rattle.samr_balance.specs.OnAll.{round_at}
-use Rattle.samr_balance.proofs.AllLemmas.{hand_read, after_round_down}
+use Rattle.samr_balance.proofs.OnAllLaws.{hand_read, after_round_down}
 use Rattle.samr_balance.proofs.on_all.go_down_once.Goals as goal
 
 pub start_down-requires-clause-hand : goal.start_down-requires-clause-hand

@@ -3,9 +3,9 @@ use Rattle.std.specs.Prelude.{unsigned_abs}
 use Rattle.samr_tree.specs.Tree.{bottom}
 use Rattle.samr_tree.proofs.OnAllLemmas.{each_more}
 use Rattle.samr_balance.specs.Rounds.{going_down}
-use Rattle.samr_balance.specs.Homes.{HasPieces}
+use Rattle.samr_balance.specs.Home.{HasPieces}
 use Rattle.samr_balance.specs.OnAll.{homes_of, round_at}
-use Rattle.samr_balance.proofs.AllLemmas.{hand_read, all_home}
+use Rattle.samr_balance.proofs.OnAllLaws.{hand_read, all_home}
 use Rattle.samr_balance.proofs.on_all.go_home.Goals as goal
 
 pub start_home-requires-clause-hand : goal.start_home-requires-clause-hand

@@ -1,7 +1,7 @@
 use Rattle.std.proofs.Common.{◌≡◌, ℕ, length, Some, slice_get}
 use Rattle.std.specs.Prelude.{unsigned_abs}
 use Rattle.samr_balance.specs.declared.home.Home.{Home}
-use Rattle.samr_balance.specs.Homes.{HasPieces}
+use Rattle.samr_balance.specs.Home.{HasPieces}
 use Rattle.samr_balance.specs.OnAll.{homes_of}
 use Rattle.samr_balance.proofs.on_all.go_home.Given as goal
 

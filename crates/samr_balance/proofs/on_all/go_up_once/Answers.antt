@@ -3,7 +3,7 @@ use Rattle.std.specs.Prelude.{unsigned_abs}
 use Rattle.samr_tree.proofs.OnAllLemmas.{each_more}
 use Rattle.samr_balance.specs.Rounds.{going_up, IsPart}
 use Rattle.samr_balance.specs.OnAll.{round_at}
-use Rattle.samr_balance.proofs.AllLemmas.{hand_read, after_round_up}
+use Rattle.samr_balance.proofs.OnAllLaws.{hand_read, after_round_up}
 use Rattle.samr_balance.proofs.on_all.go_up_once.Goals as goal
 
 pub start_up-requires-clause-hand : goal.start_up-requires-clause-hand

@@ -5,8 +5,8 @@ use Rattle.std.specs.Prelude.{FitsSigned, List}
 use Rattle.samr_level.specs.Refs.{Owned}
 use Rattle.samr_load.specs.Balanced.{cells_in}
 use Rattle.samr_load.specs.Laws.{AreOwned}
-use Rattle.samr_balance.proofs.HomeRows.{cells_are}
-use Rattle.samr_balance.proofs.AllLemmas.{owned_from, some_handed}
+use Rattle.samr_balance.proofs.HomeRowLaws.{cells_are}
+use Rattle.samr_balance.proofs.OnAllLaws.{owned_from, some_handed}
 use Rattle.samr_balance.proofs.on_all.planned.Goals as goal
 
 pub cells_in-total-requires : goal.cells_in-total-requires

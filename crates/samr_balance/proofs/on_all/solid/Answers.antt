@@ -1,6 +1,6 @@
 use Rattle.std.proofs.Common.{◌∙◌, ap, ◌++◌, ◌∷◌, [], arith}
 use Rattle.samr_load.proofs.PlainSteps.{solid_more}
-use Rattle.samr_balance.proofs.AllLemmas.{list_again}
+use Rattle.samr_balance.proofs.OnAllLaws.{list_again}
 use Rattle.samr_balance.proofs.on_all.solid.Goals as goal
 
 pub loop-old-preserved : goal.loop-old-preserved

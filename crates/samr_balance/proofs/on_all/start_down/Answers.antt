@@ -6,7 +6,7 @@ use Rattle.samr_load.specs.Balanced.{cells_in}
 use Rattle.samr_load.proofs.PlainSteps.{quota_is}
 use Rattle.samr_balance.specs.Rounds.{going_down}
 use Rattle.samr_balance.specs.OnAll.{round_at}
-use Rattle.samr_balance.proofs.AllLemmas.{part, handed}
+use Rattle.samr_balance.proofs.OnAllLaws.{part, handed}
 use Rattle.samr_balance.proofs.on_all.start_down.Goals as goal
 
 pub returns : goal.returns

@@ -6,7 +6,7 @@ use Rattle.samr_level.specs.Levels.{own}
 use Rattle.samr_load.specs.Balanced.{cells_in}
 use Rattle.samr_load.specs.Laws.{boxes_of}
 use Rattle.samr_balance.specs.OnAll.{homes_of}
-use Rattle.samr_balance.proofs.AllLemmas.{is_home}
+use Rattle.samr_balance.proofs.OnAllLaws.{is_home}
 use Rattle.samr_balance.proofs.on_all.start_home.Goals as goal
 
 pub returns : goal.returns

@@ -7,7 +7,7 @@ use Rattle.samr_box.specs.Vector.{alike, greatest}
 use Rattle.samr_box.specs.Space.{Space, IsSpace, finer}
 use Rattle.samr_level.specs.Refs.{Owned}
 use Rattle.samr_level.specs.Blocks.{level0}
-use Rattle.samr_bridge.specs.Bridging.{Bridging, Own}
+use Rattle.samr_bridge.specs.Bridge.{Bridging, Own}
 use Rattle.samr_bridge.specs.Found.{east_pair}
 use Rattle.samr_bench.proofs.bridging.measure.Goals as goal
 

@@ -9,7 +9,7 @@ use Rattle.samr_level.specs.RefOrders.{in_order}
 use Rattle.samr_level.proofs.Sorting.{settled_is}
 use Rattle.samr_level.proofs.RefLaws.{same_nat}
 use Rattle.samr_level.proofs.Steps.{map_append, filter_append}
-use Rattle.samr_bridge.specs.Rows.{other_owners}
+use Rattle.samr_bridge.specs.BridgeRow.{other_owners}
 use Rattle.samr_bridge.proofs.edges.other_owners.Goals as goal
 
 pub returns : goal.returns

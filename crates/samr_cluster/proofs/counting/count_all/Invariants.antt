@@ -1,5 +1,5 @@
 use Rattle.std.proofs.Common.{◌≡◌, take, map}
-use Rattle.samr_cluster.specs.Reports.{count_in}
+use Rattle.samr_cluster.specs.ReportRow.{count_in}
 use Rattle.samr_cluster.proofs.counting.count_all.Given as goal
 
 abbrev pub invariant-loop-p : goal.invariant-loop-p

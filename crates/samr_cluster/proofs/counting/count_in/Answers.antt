@@ -1,6 +1,6 @@
 use Rattle.std.proofs.Common.{ap, sum_by}
 use Rattle.samr_sign.specs.Counts.{total}
-use Rattle.samr_cluster.specs.Reports.{signed}
+use Rattle.samr_cluster.specs.ReportRow.{signed}
 use Rattle.samr_cluster.proofs.CountLaws.{next_sum_fits}
 use Rattle.samr_cluster.proofs.counting.count_in.Goals as goal
 

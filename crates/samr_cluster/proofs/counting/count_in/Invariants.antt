@@ -2,7 +2,7 @@ use Rattle.std.proofs.Common.{◌≡◌, take, sum_by}
 use Rattle.std.specs.List.{flat_map}
 use Rattle.samr_sign.specs.Counts.{total}
 use Rattle.samr_rounds.specs.Ranks.{sum_of_signs}
-use Rattle.samr_cluster.specs.Reports.{signed, signs_on, tags_from}
+use Rattle.samr_cluster.specs.ReportRow.{signed, signs_on, tags_from}
 use Rattle.samr_cluster.proofs.counting.count_in.Given as goal
 
 abbrev pub invariant-loop-h : goal.invariant-loop-h

@@ -1,5 +1,5 @@
 use Rattle.std.proofs.Common.{◌≡◌, take, map}
-use Rattle.samr_cluster.specs.Reports.{signs_for}
+use Rattle.samr_cluster.specs.ReportRow.{signs_for}
 use Rattle.samr_cluster.proofs.signing.letters_to.Given as goal
 
 abbrev pub invariant-loop-to : goal.invariant-loop-to

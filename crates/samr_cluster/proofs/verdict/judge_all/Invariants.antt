@@ -1,5 +1,5 @@
 use Rattle.std.proofs.Common.{◌≡◌, take, map}
-use Rattle.samr_cluster.specs.Verdicts.{judge}
+use Rattle.samr_cluster.specs.DecideRow.{judge}
 use Rattle.samr_cluster.proofs.verdict.judge_all.Given as goal
 
 abbrev pub invariant-loop-c : goal.invariant-loop-c

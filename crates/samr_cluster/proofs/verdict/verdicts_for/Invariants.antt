@@ -1,6 +1,6 @@
 use Rattle.std.proofs.Common.{◌≡◌, take}
 use Rattle.std.specs.List.{flat_map}
-use Rattle.samr_cluster.specs.Verdicts.{told_to}
+use Rattle.samr_cluster.specs.DecideRow.{told_to}
 use Rattle.samr_cluster.proofs.verdict.verdicts_for.Given as goal
 
 abbrev pub invariant-loop-j : goal.invariant-loop-j

@@ -6,7 +6,7 @@ use Rattle.samr_boxlist.proofs.Steps.{map_step}
 use Rattle.samr_level.specs.Refs.{Owned}
 use Rattle.samr_level.specs.Levels.{own}
 use Rattle.samr_data.specs.Grids.{Grid, grid_of}
-use Rattle.samr_fill.specs.Filling.{value_of}
+use Rattle.samr_fill.specs.Fill.{value_of}
 use Rattle.samr_fill.proofs.FieldTasks.{as_many, patch_below, box_at, box_task}
 use Rattle.samr_fill.proofs.filling.fill_field.Goals as goal
 

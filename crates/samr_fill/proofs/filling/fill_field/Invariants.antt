@@ -1,8 +1,8 @@
 use Rattle.std.proofs.Common.{◌≡◌, ◌≤◌, ℕ, map, take}
 use Rattle.samr_level.specs.Levels.{own}
 use Rattle.samr_data.specs.Grids.{grid_of}
-use Rattle.samr_fill.specs.Filling.{Filling, value_of}
-use Rattle.samr_fill.specs.Tasks.{IsField}
+use Rattle.samr_fill.specs.Fill.{Filling, value_of}
+use Rattle.samr_fill.specs.FilledSoFar.{IsField}
 use Rattle.samr_fill.proofs.filling.fill_field.Given as goal
 
 abbrev pub invariant-loop-place : goal.invariant-loop-place

@@ -1,8 +1,8 @@
 use Rattle.std.proofs.Common.{◌≡◌, ◌≤◌, ℕ, map, take}
 use Rattle.std.specs.List.{enumerate_from}
-use Rattle.samr_fill.specs.Filling.{Filling}
+use Rattle.samr_fill.specs.Fill.{Filling}
 use Rattle.samr_fill.specs.FillParts.{filled_field}
-use Rattle.samr_fill.specs.Tasks.{AreFields}
+use Rattle.samr_fill.specs.FilledSoFar.{AreFields}
 use Rattle.samr_fill.proofs.filling.fill_fields.Given as goal
 
 abbrev pub invariant-loop-field : goal.invariant-loop-field

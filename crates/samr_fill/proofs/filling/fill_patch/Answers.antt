@@ -1,4 +1,4 @@
-use Rattle.samr_fill.specs.Filling.{value_of}
+use Rattle.samr_fill.specs.Fill.{value_of}
 use Rattle.samr_fill.specs.Writing.{any_takes}
 use Rattle.samr_fill.proofs.PatchTasks.{rest_fits, small_step, all_fit, all_true, can, done}
 use Rattle.samr_fill.proofs.filling.fill_patch.Goals as goal

@@ -1,4 +1,4 @@
-use Rattle.samr_fill.proofs.RowProofs.{values_of_rows}
+use Rattle.samr_fill.proofs.WorkedProofs.{values_of_rows}
 use Rattle.samr_fill.proofs.laws.values_of_rows.Goals as goal
 
 pub returns : goal.returns

@@ -2,7 +2,7 @@ use Rattle.std.proofs.Common.{◌∙◌, ap, sym, subst, ℕ, List}
 use Rattle.samr_box.specs.Corners.{Holds}
 use Rattle.samr_box.specs.Space.{whole}
 use Rattle.samr_level.specs.Refs.{Owned}
-use Rattle.samr_tags.specs.Tagging.{in_level}
+use Rattle.samr_tags.specs.Buffer.{in_level}
 use Rattle.samr_mesh.specs.Domains.{frame_at}
 use Rattle.samr_mesh.specs.Passes.{Pass}
 use Rattle.samr_mesh_plain.proofs.TagFacts.{cell_home}

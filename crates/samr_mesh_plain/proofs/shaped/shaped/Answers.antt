@@ -4,7 +4,7 @@ use Rattle.std.specs.List.{All, list_any}
 use Rattle.samr_box.specs.declared.vector.IVec.{IVec}
 use Rattle.samr_box.specs.Corners.{Corners, Holds, holds, grown}
 use Rattle.samr_box.specs.Space.{whole}
-use Rattle.samr_tags.specs.Tagging.{is_shaped}
+use Rattle.samr_tags.specs.Buffer.{is_shaped}
 use Rattle.samr_mesh.specs.Domains.{frame_at}
 use Rattle.samr_mesh.specs.Passes.{Pass, tagging}
 use Rattle.samr_mesh_plain.specs.Making.{one_cell}

@@ -1,5 +1,5 @@
 use Rattle.std.proofs.Common.{◌≡◌, take, filter}
-use Rattle.samr_tags.specs.Tagging.{is_shaped}
+use Rattle.samr_tags.specs.Buffer.{is_shaped}
 use Rattle.samr_mesh.specs.Passes.{tagging}
 use Rattle.samr_mesh_plain.proofs.shaped.shaped_of.Given as goal
 

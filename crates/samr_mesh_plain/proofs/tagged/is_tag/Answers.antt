@@ -5,7 +5,7 @@ use Rattle.samr_level.specs.Refs.{Owned}
 use Rattle.samr_problem.specs.Fields.{Fields}
 use Rattle.samr_sign.specs.Counts.{tally}
 use Rattle.samr_sign.specs.Fields.{tagged}
-use Rattle.samr_tags.specs.Tagging.{in_level}
+use Rattle.samr_tags.specs.Buffer.{in_level}
 use Rattle.samr_mesh_plain.specs.Making.{one_cell}
 use Rattle.samr_mesh_plain.proofs.TagFacts.{cell_box, about_box, near_is, no_cell, near_tag, cover_tag}
 use Rattle.samr_mesh_plain.proofs.tagged.is_tag.Goals as goal

@@ -6,7 +6,7 @@ use Rattle.std.specs.Ordering.{nat_cmp}
 use Rattle.samr_level.specs.RefOrders.{in_order}
 use Rattle.samr_level.proofs.Sorting.{settled_is}
 use Rattle.samr_level.proofs.RefLaws.{same_nat}
-use Rattle.samr_modify.specs.Rows.{others}
+use Rattle.samr_modify.specs.ModifyRow.{others}
 use Rattle.samr_modify.proofs.owners.others.Goals as goal
 
 pub returns : goal.returns

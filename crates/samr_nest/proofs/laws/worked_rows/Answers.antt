@@ -1,4 +1,4 @@
-use Rattle.samr_nest.proofs.RowProofs.{at_both_ends, over_two_parts}
+use Rattle.samr_nest.proofs.WorkedProofs.{at_both_ends, over_two_parts}
 use Rattle.samr_nest.proofs.laws.worked_rows.Goals as goal
 
 pub returns-clause-at_both_ends : goal.returns-clause-at_both_ends

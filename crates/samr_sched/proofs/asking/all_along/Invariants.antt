@@ -1,6 +1,6 @@
 use Rattle.std.proofs.Common.{◌≡◌, take}
 use Rattle.std.specs.List.{flat_map, filter_map}
-use Rattle.samr_sched.specs.Making.{asked_of}
+use Rattle.samr_sched.specs.PlansOfParts.{asked_of}
 use Rattle.samr_sched.proofs.asking.all_along.Given as goal
 
 abbrev pub invariant-loop-e : goal.invariant-loop-e

@@ -1,5 +1,5 @@
 use Rattle.std.proofs.Common.{◌≡◌, take, map}
-use Rattle.samr_sched.specs.Making.{plan_by}
+use Rattle.samr_sched.specs.PlansOfParts.{plan_by}
 use Rattle.samr_sched.proofs.making.box_plans.Given as goal
 
 abbrev pub invariant-loop-bx : goal.invariant-loop-bx

@@ -1,5 +1,5 @@
 use Rattle.std.proofs.Common.{◌≡◌, take, filter}
-use Rattle.samr_sched.specs.Making.{has_ghosts}
+use Rattle.samr_sched.specs.PlansOfParts.{has_ghosts}
 use Rattle.samr_sched.proofs.making.copies.Given as goal
 
 abbrev pub invariant-loop-e : goal.invariant-loop-e

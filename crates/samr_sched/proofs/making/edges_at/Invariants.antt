@@ -1,5 +1,5 @@
 use Rattle.std.proofs.Common.{◌≡◌, take, filter}
-use Rattle.samr_sched.specs.Making.{starts_at}
+use Rattle.samr_sched.specs.PlansOfParts.{starts_at}
 use Rattle.samr_sched.proofs.making.edges_at.Given as goal
 
 abbrev pub invariant-loop-e : goal.invariant-loop-e

@@ -2,7 +2,7 @@ use Rattle.std.proofs.Common.{◌∙◌, arith, get_or}
 use Rattle.std.specs.Prelude.{pos}
 use Rattle.samr_box.specs.declared.vector.IVec.{IVec}
 use Rattle.samr_box.specs.Vector.{alike}
-use Rattle.samr_sched.specs.Making.{field_by}
+use Rattle.samr_sched.specs.PlansOfParts.{field_by}
 use Rattle.samr_sched.proofs.Plain.{numbered_more, same_item, taken}
 use Rattle.samr_sched.proofs.making.field_plans.Goals as goal
 

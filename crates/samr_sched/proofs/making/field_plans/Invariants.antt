@@ -1,6 +1,6 @@
 use Rattle.std.proofs.Common.{◌≡◌, take, map}
 use Rattle.std.specs.List.{enumerate_from}
-use Rattle.samr_sched.specs.Making.{field_by}
+use Rattle.samr_sched.specs.PlansOfParts.{field_by}
 use Rattle.samr_sched.proofs.making.field_plans.Given as goal
 
 abbrev pub invariant-loop-width : goal.invariant-loop-width

@@ -2,7 +2,7 @@ use Rattle.std.proofs.Common.{◌<◌, length, refl, ap, arith}
 use Rattle.std.proofs.lemmas.Iterator.Adapters.{YieldsList-from_vec}
 use Rattle.std.proofs.lemmas.Iterator.Consumers.{YieldsList-turn}
 use Rattle.std.proofs.lemmas.Option.{slice_get_read}
-use Rattle.samr_stage.proofs.BoxLemmas.{Deliver-none, Deliver-more}
+use Rattle.samr_stage.proofs.Mailboxes.{Deliver-none, Deliver-more}
 use Rattle.samr_stage.proofs.all_ranks.deliver.Goals as goal
 
 pub each-init : goal.each-init

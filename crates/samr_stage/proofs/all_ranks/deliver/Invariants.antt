@@ -1,4 +1,4 @@
-use Rattle.samr_stage.specs.Boxes.{Deliver}
+use Rattle.samr_stage.specs.Mailboxes.{Deliver}
 use Rattle.samr_stage.proofs.all_ranks.deliver.Given as goal
 
 abbrev pub invariant-each : goal.invariant-each

@@ -4,7 +4,7 @@ use Rattle.std.proofs.lemmas.Iterator.Adapters.{YieldsList-from_vec}
 use Rattle.std.proofs.lemmas.Iterator.Consumers.{YieldsList-turn}
 use Rattle.std.proofs.lemmas.List.{length_push}
 use Rattle.samr_stage.specs.Exchange.{AreResults}
-use Rattle.samr_stage.proofs.BoxLemmas.{zip_places, AreResults-more}
+use Rattle.samr_stage.proofs.Mailboxes.{zip_places, AreResults-more}
 use Rattle.samr_stage.proofs.all_ranks.finish_all.Goals as goal
 use Rattle.samr_stage.proofs.all_ranks.finish_all.Goals.{In-Some}
 

@@ -1,6 +1,6 @@
 use Rattle.std.proofs.Common.{◌≡◌, length}
 use Rattle.samr_stage.specs.Exchange.{AreParts, AreResults}
-use Rattle.samr_stage.specs.Boxes.{HoldHeard}
+use Rattle.samr_stage.specs.Mailboxes.{HoldHeard}
 use Rattle.samr_stage.proofs.all_ranks.finish_all.Given as goal
 
 abbrev pub invariant-each : goal.invariant-each

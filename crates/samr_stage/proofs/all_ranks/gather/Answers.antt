@@ -2,7 +2,7 @@ use Rattle.std.proofs.Common.{◌<◌, ◌≤◌, length, refl, sym, ◌∙◌, 
 use Rattle.std.proofs.lemmas.List.{length-set}
 use Rattle.std.proofs.lemmas.Option.{slice_get_read}
 use Rattle.samr_stage.specs.Exchange.{AreParts}
-use Rattle.samr_stage.proofs.BoxLemmas.{HoldHeard-none, HoldHeard-more, told_within, AreTelling-none, AreTelling-more, AreTelling-all}
+use Rattle.samr_stage.proofs.Mailboxes.{HoldHeard-none, HoldHeard-more, told_within, AreTelling-none, AreTelling-more, AreTelling-all}
 use Rattle.samr_stage.proofs.all_ranks.gather.Goals as goal
 use Rattle.samr_stage.proofs.all_ranks.gather.Goals.{After-index_mut}
 

@@ -1,6 +1,6 @@
 use Rattle.std.proofs.Common.{◌≡◌, length}
 use Rattle.samr_stage.specs.Exchange.{AreParts}
-use Rattle.samr_stage.specs.Boxes.{HoldHeard, AreTelling}
+use Rattle.samr_stage.specs.Mailboxes.{HoldHeard, AreTelling}
 use Rattle.samr_stage.proofs.all_ranks.gather.Given as goal
 
 abbrev pub invariant-each : goal.invariant-each

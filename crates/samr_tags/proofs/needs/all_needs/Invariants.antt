@@ -1,5 +1,5 @@
 use Rattle.std.proofs.Common.{◌≡◌, take, map, filter}
-use Rattle.samr_tags.specs.Covers.{below_head, is_below}
+use Rattle.samr_tags.specs.CoverRow.{below_head, is_below}
 use Rattle.samr_tags.proofs.needs.all_needs.Given as goal
 
 abbrev pub invariant-loop-e : goal.invariant-loop-e

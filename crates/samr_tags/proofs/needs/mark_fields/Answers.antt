@@ -4,8 +4,8 @@ use Rattle.std.proofs.lemmas.Iterator.Consumers.{YieldsList-end}
 use Rattle.std.proofs.lemmas.List.{map-id}
 use Rattle.std.specs.Prelude.{List}
 use Rattle.samr_sign.specs.Fields.{Field}
-use Rattle.samr_tags.specs.Covers.{is_needed, AreAdded}
-use Rattle.samr_tags.proofs.CoverLaws.{added_more}
+use Rattle.samr_tags.specs.CoverParts.{is_needed, AreAdded}
+use Rattle.samr_tags.proofs.CoverStage.{added_more}
 use Rattle.samr_tags.proofs.needs.mark_fields.Goals as goal
 
 pub loop-field-preserved : goal.loop-field-preserved

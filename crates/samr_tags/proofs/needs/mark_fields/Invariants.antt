@@ -1,4 +1,4 @@
-use Rattle.samr_tags.specs.Covers.{is_needed, AreAdded}
+use Rattle.samr_tags.specs.CoverParts.{is_needed, AreAdded}
 use Rattle.samr_tags.proofs.needs.mark_fields.Given as goal
 
 abbrev pub invariant-loop-field : goal.invariant-loop-field

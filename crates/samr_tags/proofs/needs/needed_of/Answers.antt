@@ -4,7 +4,7 @@ use Rattle.samr_box.specs.Orders.{corner_cmp}
 use Rattle.samr_box.proofs.Totals.{corner_total, same_from_corner_cmp}
 use Rattle.samr_level.specs.RefOrders.{in_order}
 use Rattle.samr_level.proofs.Sorting.{settled_is}
-use Rattle.samr_tags.specs.Covers.{needed_of}
+use Rattle.samr_tags.specs.CoverRow.{needed_of}
 use Rattle.samr_tags.proofs.CornerOrder.{corner_same, corner_ties}
 use Rattle.samr_tags.proofs.needs.needed_of.Goals as goal
 

@@ -1,6 +1,6 @@
 use Rattle.std.proofs.Common.{◌≡◌, arith}
 use Rattle.samr_sched.specs.PlanRows.{rows_of}
-use Rattle.samr_fill.proofs.AllRanks.{each_more}
+use Rattle.samr_fill.proofs.FillOnAllLaws.{each_more}
 use Rattle.samr_fill.proofs.FieldTasks.{there_at}
 use Rattle.samr_trials_fills.proofs.counting.rows_of_plans.Goals as goal
 

@@ -1,5 +1,5 @@
 use Rattle.std.proofs.Common.{◌≡◌, ℕ, length, Some, slice_get}
-use Rattle.samr_sched.specs.Scheduling.{Scheduling}
+use Rattle.samr_sched.specs.Ask.{Scheduling}
 use Rattle.samr_sched.specs.PlanRows.{rows_of}
 use Rattle.samr_trials_fills.specs.Plans.{ArePlans}
 use Rattle.samr_trials_fills.proofs.counting.rows_of_plans.Given as goal

@@ -3,7 +3,7 @@ use Rattle.std.proofs.lemmas.List.{length-map}
 use Rattle.std.specs.Prelude.{List}
 use Rattle.std.specs.List.{All}
 use Rattle.samr_box.specs.declared.vector.IVec.{IVec}
-use Rattle.samr_sched.specs.Asking.{CanPlan}
+use Rattle.samr_sched.specs.AskParts.{CanPlan}
 use Rattle.samr_sched.proofs.PlanLaws.{can_plan}
 use Rattle.samr_level.specs.Levels.{own}
 use Rattle.samr_ops.specs.declared.rules.Rules.{Rules}

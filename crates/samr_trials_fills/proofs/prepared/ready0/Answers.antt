@@ -2,7 +2,7 @@ use Rattle.std.proofs.Common.{◌∙◌, subst}
 use Rattle.std.specs.Prelude.{pos, []}
 use Rattle.samr_box.specs.Vector.{alike}
 use Rattle.samr_level.specs.Blocks.{level0}
-use Rattle.samr_fill.specs.Filling.{Filling}
+use Rattle.samr_fill.specs.Fill.{Filling}
 use Rattle.samr_trials_fills.specs.Ready.{AreReady}
 use Rattle.samr_trials_fills.proofs.FillLaws.{can_from0, same_filling}
 use Rattle.samr_trials_fills.proofs.prepared.ready0.Goals as goal

@@ -1,7 +1,7 @@
 use Rattle.std.proofs.Common.{◌∙◌, refl, ap, subst, sym}
 use Rattle.samr_level.specs.Regions.{Area, boxes_of}
 use Rattle.samr_level.specs.Blocks.{IsBlocking, level0}
-use Rattle.samr_fill.specs.Filling.{Filling}
+use Rattle.samr_fill.specs.Fill.{Filling}
 use Rattle.samr_trials_levels.specs.Kept.{kept}
 use Rattle.samr_trials_levels.specs.Cover.{fine_blocks}
 use Rattle.samr_trials_fills.specs.Ready.{AreReady}

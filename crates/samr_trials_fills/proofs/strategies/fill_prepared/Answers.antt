@@ -2,7 +2,7 @@ use Rattle.std.proofs.Common.{sym, subst}
 use Rattle.std.specs.Prelude.{List}
 use Rattle.samr_data.specs.Grids.{Grid}
 use Rattle.samr_sched.specs.declared.plan.Plan.{Plan}
-use Rattle.samr_fill.specs.AllFills.{HaveAllPatches}
+use Rattle.samr_fill.specs.FillOnAll.{HaveAllPatches}
 use Rattle.samr_trials_fills.proofs.strategies.fill_prepared.Goals as goal
 
 pub returns : goal.returns

@@ -3,7 +3,7 @@ use Rattle.std.specs.Prelude.{List}
 use Rattle.samr_stage.specs.Exchange.{AreResults}
 use Rattle.samr_box.specs.Corners.{Corners}
 use Rattle.samr_level.specs.Regions.{Area}
-use Rattle.samr_values.specs.Coarsening.{Coarsening, coarsened_patches}
+use Rattle.samr_values.specs.Coarsen.{Coarsening, coarsened_patches}
 use Rattle.samr_trials_values.proofs.CoarsenLaws.{same_coarse_blocks}
 use Rattle.samr_trials_values.proofs.coarsenings.coarsen.Goals as goal
 

@@ -3,7 +3,7 @@ use Rattle.samr_stage.specs.Exchange.{AreResults}
 use Rattle.samr_box.specs.Space.{Space}
 use Rattle.samr_level.specs.Regions.{Area, boxes_of}
 use Rattle.samr_level.specs.Blocks.{IsBlocking, level0}
-use Rattle.samr_values.specs.Coarsening.{Coarsening, coarsened_patches}
+use Rattle.samr_values.specs.Coarsen.{Coarsening, coarsened_patches}
 use Rattle.samr_trials_levels.specs.Kept.{kept}
 use Rattle.samr_trials_levels.specs.Cover.{fine_blocks}
 use Rattle.samr_trials_values.specs.Coarsenings.{CanCoarsenOver}

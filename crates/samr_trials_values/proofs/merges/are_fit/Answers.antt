@@ -5,7 +5,7 @@ use Rattle.samr_box.specs.Corners.{cells_of}
 use Rattle.samr_level.specs.Refs.{Owned}
 use Rattle.samr_level.specs.Regions.{Area}
 use Rattle.samr_level.specs.Blocks.{level0}
-use Rattle.samr_values.specs.Coarsening.{IsRefinement}
+use Rattle.samr_values.specs.Coarsen.{IsRefinement}
 use Rattle.samr_trials_values.proofs.merges.are_fit.Goals as goal
 
 pub returns : goal.returns

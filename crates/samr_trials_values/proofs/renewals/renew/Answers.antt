@@ -3,7 +3,7 @@ use Rattle.std.specs.Prelude.{List}
 use Rattle.samr_stage.specs.Exchange.{AreResults}
 use Rattle.samr_box.specs.Corners.{Corners}
 use Rattle.samr_level.specs.Regions.{Area}
-use Rattle.samr_values.specs.Renewing.{Renewing, renewed}
+use Rattle.samr_values.specs.Values.{Renewing, renewed}
 use Rattle.samr_trials_values.proofs.RenewLaws.{same_blocks}
 use Rattle.samr_trials_values.proofs.renewals.renew.Goals as goal
 

@@ -3,7 +3,7 @@ use Rattle.std.specs.Prelude.{List}
 use Rattle.samr_stage.specs.Exchange.{AreResults}
 use Rattle.samr_level.specs.Regions.{Area}
 use Rattle.samr_ops.specs.declared.rules.Rules.{Rules}
-use Rattle.samr_values.specs.Renewing.{renewed}
+use Rattle.samr_values.specs.Values.{renewed}
 use Rattle.samr_trials_values.specs.Renewals.{renewing}
 use Rattle.samr_trials_values.proofs.strategies.renew_made.Goals as goal
 

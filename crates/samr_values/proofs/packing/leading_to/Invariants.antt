@@ -1,5 +1,5 @@
 use Rattle.std.proofs.Common.{◌≡◌, take, filter}
-use Rattle.samr_values.specs.Renewals.{leads_to}
+use Rattle.samr_values.specs.ValuesRow.{leads_to}
 use Rattle.samr_values.proofs.packing.leading_to.Given as goal
 
 abbrev pub invariant-loop-e : goal.invariant-loop-e

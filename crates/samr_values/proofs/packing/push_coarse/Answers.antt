@@ -5,7 +5,7 @@ use Rattle.std.specs.List.{filter_map}
 use Rattle.std.specs.Option.{option_map, option_to_list}
 use Rattle.samr_box.specs.Corners.{Corners}
 use Rattle.samr_level.specs.Refs.{Link}
-use Rattle.samr_values.specs.Renewals.{parcel_of, coarse_parcel}
+use Rattle.samr_values.specs.ValuesRow.{parcel_of, coarse_parcel}
 use Rattle.samr_values.proofs.Written.{item_member}
 use Rattle.samr_values.proofs.Packed.{one_more}
 use Rattle.samr_values.proofs.packing.push_coarse.Goals as goal

@@ -5,7 +5,7 @@ use Rattle.std.specs.List.{flat_map, range_with_len}
 use Rattle.samr_data.specs.Grids.{Grid}
 use Rattle.samr_level.proofs.BlockRows.{range_more}
 use Rattle.samr_values.specs.Patches.{HasField, IsBased}
-use Rattle.samr_values.specs.Renewals.{field_parcels}
+use Rattle.samr_values.specs.ValuesRow.{field_parcels}
 use Rattle.samr_values.proofs.sending.parcels_along.Goals as goal
 
 pub push_field-requires-clause-based : goal.push_field-requires-clause-based

@@ -2,7 +2,7 @@ use Rattle.std.proofs.Common.{◌≡◌, ℕ}
 use Rattle.std.specs.List.{flat_map, range_with_len}
 use Rattle.samr_box.specs.declared.vector.IVec.{IVec}
 use Rattle.samr_values.specs.Patches.{HaveFields}
-use Rattle.samr_values.specs.Renewals.{field_parcels}
+use Rattle.samr_values.specs.ValuesRow.{field_parcels}
 use Rattle.samr_values.proofs.sending.parcels_along.Given as goal
 
 abbrev pub invariant-loop-f : goal.invariant-loop-f

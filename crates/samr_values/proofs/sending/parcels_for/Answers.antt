@@ -3,7 +3,7 @@ use Rattle.std.specs.Prelude.{List}
 use Rattle.std.specs.List.{flat_map, range_with_len}
 use Rattle.samr_level.specs.Refs.{Link}
 use Rattle.samr_values.specs.Patches.{IsBased}
-use Rattle.samr_values.specs.Renewals.{leads_to, field_parcels}
+use Rattle.samr_values.specs.ValuesRow.{leads_to, field_parcels}
 use Rattle.samr_values.proofs.Leading.{based_some}
 use Rattle.samr_values.proofs.sending.parcels_for.Goals as goal
 

@@ -2,7 +2,7 @@ use Rattle.std.proofs.Common.{◌≡◌, ◌++◌, [], ◌∷◌, refl, ap, ◌�
 use Rattle.std.specs.Prelude.{List}
 use Rattle.std.specs.List.{filter_map}
 use Rattle.samr_data.specs.declared.parcel.Parcel.{Parcel}
-use Rattle.samr_values.specs.Renewals.{old_parcel, coarse_parcel}
+use Rattle.samr_values.specs.ValuesRow.{old_parcel, coarse_parcel}
 use Rattle.samr_values.proofs.sending.push_field.Goals as goal
 
 assoc : (a b c : List Parcel) → (a ++ b) ++ c ≡ a ++ (b ++ c)

@@ -3,7 +3,7 @@ use Rattle.std.proofs.lemmas.List.{take_all}
 use Rattle.std.proofs.lemmas.List.Elements.{All-more}
 use Rattle.std.specs.List.{All}
 use Rattle.samr_level.specs.Refs.{Link}
-use Rattle.samr_values.specs.Coarsening.{IsRefinement}
+use Rattle.samr_values.specs.Coarsen.{IsRefinement}
 use Rattle.samr_values.proofs.tests.all_start_over.Goals as goal
 
 pub loop-e-preserved : goal.loop-e-preserved

@@ -7,7 +7,7 @@ use Rattle.samr_level.specs.Refs.{Link}
 use Rattle.samr_data.specs.Grids.{Grid}
 use Rattle.samr_values.specs.declared.merging.Merge.{Merge}
 use Rattle.samr_values.specs.Patches.{AreBased}
-use Rattle.samr_values.specs.Coarsening.{IsRefinement}
+use Rattle.samr_values.specs.Coarsen.{IsRefinement}
 use Rattle.samr_values.specs.Merging.{CanMerge}
 use Rattle.samr_values.proofs.tests.can_merge.Goals as goal
 

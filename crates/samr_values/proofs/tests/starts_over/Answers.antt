@@ -1,6 +1,6 @@
 use Rattle.std.proofs.Common.{subst}
 use Rattle.samr_box.specs.Corners.{Corners}
-use Rattle.samr_values.specs.Coarsening.{IsRefinement}
+use Rattle.samr_values.specs.Coarsen.{IsRefinement}
 use Rattle.samr_values.proofs.tests.starts_over.Goals as goal
 
 pub returns : goal.returns

@@ -1,7 +1,7 @@
 use Rattle.std.proofs.Common.{ℕ, ap, ◌∙◌, map, refl, length}
 use Rattle.std.proofs.lemmas.List.{take_all}
 use Rattle.std.specs.Prelude.{List}
-use Rattle.samr_values.specs.Renewals.{parcels_by}
+use Rattle.samr_values.specs.ValuesRow.{parcels_by}
 use Rattle.samr_values.proofs.Poured.{one_more_letter}
 use Rattle.samr_values.proofs.values.letters_for.Goals as goal
 

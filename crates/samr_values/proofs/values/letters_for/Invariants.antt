@@ -1,7 +1,7 @@
 use Rattle.std.proofs.Common.{◌≡◌, ℕ, take, map, length}
 use Rattle.samr_box.specs.declared.vector.IVec.{IVec}
 use Rattle.samr_values.specs.Patches.{HaveFields}
-use Rattle.samr_values.specs.Renewals.{parcels_by}
+use Rattle.samr_values.specs.ValuesRow.{parcels_by}
 use Rattle.samr_values.proofs.values.letters_for.Given as goal
 
 abbrev pub invariant-each : goal.invariant-each

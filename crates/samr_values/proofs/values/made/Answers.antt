@@ -1,5 +1,5 @@
 use Rattle.std.proofs.Common.{◌∙◌}
-use Rattle.samr_values.proofs.Packs.{has_packed}
+use Rattle.samr_values.proofs.ValuesStart.{has_packed}
 use Rattle.samr_values.proofs.values.made.Goals as goal
 
 pub returns : goal.returns

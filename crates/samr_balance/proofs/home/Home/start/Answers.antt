@@ -1,4 +1,4 @@
-use Rattle.samr_balance.proofs.HomeEnds.{begins}
+use Rattle.samr_balance.proofs.HomeStage.{begins}
 use Rattle.samr_balance.proofs.home.Home.start.Goals as goal
 
 pub returns : goal.returns

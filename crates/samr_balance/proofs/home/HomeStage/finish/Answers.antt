@@ -7,7 +7,7 @@ use Rattle.samr_level.specs.RefOrders.{ref_cmp}
 use Rattle.samr_level.specs.declared.parts.Move.{Move}
 use Rattle.samr_load.specs.Pieces.{Placed, sorted}
 use Rattle.samr_balance.specs.HomeRow.{Cutting, told_on, kept_on}
-use Rattle.samr_balance.proofs.HomeEnds.{ends}
+use Rattle.samr_balance.proofs.HomeStage.{ends}
 use Rattle.samr_balance.proofs.HomeLaws.{homed_laws}
 use Rattle.samr_balance.proofs.home.HomeStage.finish.Goals as goal
 

@@ -3,7 +3,7 @@ use Rattle.std.specs.Prelude.{sum_by}
 use Rattle.samr_box.specs.Corners.{cells_of}
 use Rattle.samr_level.specs.Refs.{Owned}
 use Rattle.samr_balance.specs.HomeRow.{size_for}
-use Rattle.samr_balance.proofs.HomeRows.{olds_small, own_part_within, goal_is}
+use Rattle.samr_balance.proofs.HomeRowLaws.{olds_small, own_part_within, goal_is}
 use Rattle.samr_balance.proofs.home.HomeStage.goal.Goals as goal
 
 pub cells_in-requires : goal.cells_in-requires

@@ -5,7 +5,7 @@ use Rattle.std.specs.Option.{option_map}
 use Rattle.samr_stage.specs.Row.{told}
 use Rattle.samr_load.specs.Pieces.{Placed}
 use Rattle.samr_balance.specs.HomeRow.{Cutting, told_of, weight, line_of}
-use Rattle.samr_balance.proofs.HomeRows.{line_small, line_more, line_none, letters_are}
+use Rattle.samr_balance.proofs.HomeRowLaws.{line_small, line_more, line_none, letters_are}
 use Rattle.samr_balance.proofs.home.HomeStage.letters.Goals as goal
 
 pub each-init : goal.each-init

@@ -1,6 +1,6 @@
 use Rattle.std.proofs.Common.{arith, ap}
 use Rattle.samr_balance.specs.HomeRow.{weight}
-use Rattle.samr_balance.proofs.HomeRows.{letter_small}
+use Rattle.samr_balance.proofs.HomeRowLaws.{letter_small}
 use Rattle.samr_balance.proofs.home.HomeStage.weight.Goals as goal
 
 pub weight-requires : goal.weight-requires

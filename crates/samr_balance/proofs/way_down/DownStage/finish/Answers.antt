@@ -3,7 +3,7 @@ use Rattle.std.specs.Prelude.{List}
 use Rattle.std.specs.List.{flat_map}
 use Rattle.samr_stage.specs.declared.stage.Held.{Held}
 use Rattle.samr_load.specs.Pieces.{Placed}
-use Rattle.samr_balance.proofs.DownLemmas.{ends}
+use Rattle.samr_balance.proofs.WayDownStage.{ends}
 use Rattle.samr_balance.proofs.way_down.DownStage.finish.Goals as goal
 
 pub returns : goal.returns

@@ -1,6 +1,6 @@
 use Rattle.std.proofs.Common.{arith, ap}
 use Rattle.samr_load.specs.Pieces.{load}
-use Rattle.samr_balance.proofs.DownLemmas.{goal_none, load_small, wanted_small, goal_is}
+use Rattle.samr_balance.proofs.WayDownStage.{goal_none, load_small, wanted_small, goal_is}
 use Rattle.samr_balance.proofs.way_down.DownStage.goal.Goals as goal
 
 pub returns-then-not-told_down : goal.returns-then-not-told_down

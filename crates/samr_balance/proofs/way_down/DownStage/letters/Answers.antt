@@ -5,7 +5,7 @@ use Rattle.std.specs.Prelude.{FitsSigned}
 use Rattle.samr_tree.specs.Tree.{depth}
 use Rattle.samr_load.specs.Pieces.{load}
 use Rattle.samr_load.proofs.PlainSteps.{passed}
-use Rattle.samr_balance.proofs.DownLemmas.{says_nothing, hand_small, says_children, waits_given}
+use Rattle.samr_balance.proofs.WayDownStage.{says_nothing, hand_small, says_children, waits_given}
 use Rattle.samr_balance.proofs.way_down.DownStage.letters.Goals as goal
 
 pub returns-then-depth-self-clause-letters : goal.returns-then-depth-self-clause-letters

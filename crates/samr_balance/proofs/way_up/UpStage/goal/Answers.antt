@@ -1,4 +1,4 @@
-use Rattle.samr_balance.proofs.UpLemmas.{goal_is}
+use Rattle.samr_balance.proofs.WayUpStage.{goal_is}
 use Rattle.samr_balance.proofs.way_up.UpStage.goal.Goals as goal
 
 pub returns : goal.returns

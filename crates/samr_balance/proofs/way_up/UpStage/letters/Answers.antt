@@ -4,7 +4,7 @@ use Rattle.std.specs.Int.{w64}
 use Rattle.std.specs.Prelude.{FitsSigned}
 use Rattle.samr_load.specs.Pieces.{load}
 use Rattle.samr_load.proofs.PlainSteps.{passed}
-use Rattle.samr_balance.proofs.UpLemmas.{says_nothing, has_parent, wanted_small, hand_small, says_gift, waits_given}
+use Rattle.samr_balance.proofs.WayUpStage.{says_nothing, has_parent, wanted_small, hand_small, says_gift, waits_given}
 use Rattle.samr_balance.proofs.way_up.UpStage.letters.Goals as goal
 
 pub returns-then-not-tells_up-clause-letters : goal.returns-then-not-tells_up-clause-letters

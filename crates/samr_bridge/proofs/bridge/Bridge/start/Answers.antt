@@ -3,8 +3,8 @@ use Rattle.std.specs.Prelude.{List}
 use Rattle.samr_level.specs.Refs.{Link}
 use Rattle.samr_level.specs.Overlaps.{scale_in}
 use Rattle.samr_bridge.specs.Found.{found_by}
-use Rattle.samr_bridge.specs.Rows.{other_owners}
-use Rattle.samr_bridge.proofs.StageLemmas.{begins}
+use Rattle.samr_bridge.specs.BridgeRow.{other_owners}
+use Rattle.samr_bridge.proofs.BridgeStage.{begins}
 use Rattle.samr_bridge.proofs.bridge.Bridge.start.Goals as goal
 
 pub returns : goal.returns

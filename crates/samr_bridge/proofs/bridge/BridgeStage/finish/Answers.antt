@@ -5,7 +5,7 @@ use Rattle.samr_stage.specs.declared.stage.Held.{Held}
 use Rattle.samr_level.specs.Refs.{Link, turned}
 use Rattle.samr_level.specs.RefOrders.{edge_cmp, in_order}
 use Rattle.samr_level.specs.Overlaps.{of_rank}
-use Rattle.samr_bridge.proofs.StageLemmas.{ends}
+use Rattle.samr_bridge.proofs.BridgeStage.{ends}
 use Rattle.samr_bridge.proofs.bridge.BridgeStage.finish.Goals as goal
 
 pub returns : goal.returns

@@ -1,5 +1,5 @@
 use Rattle.std.proofs.Common.{ap, ◌∙◌, length, arith}
-use Rattle.samr_bridge.proofs.RowLaws.{count_is}
+use Rattle.samr_bridge.proofs.BridgeRowLaws.{count_is}
 use Rattle.samr_bridge.proofs.bridge.BridgeStage.goal.Goals as goal
 
 pub returns : goal.returns

@@ -1,8 +1,8 @@
 use Rattle.std.proofs.Common.{ℕ, ap, ◌∙◌, map}
 use Rattle.std.proofs.lemmas.List.{take_all}
 use Rattle.std.specs.Prelude.{List}
-use Rattle.samr_bridge.specs.Rows.{about}
-use Rattle.samr_bridge.proofs.StageLemmas.{tells}
+use Rattle.samr_bridge.specs.BridgeRow.{about}
+use Rattle.samr_bridge.proofs.BridgeStage.{tells}
 use Rattle.samr_bridge.proofs.bridge.BridgeStage.letters.Goals as goal
 
 pub returns-clause-letters : goal.returns-clause-letters

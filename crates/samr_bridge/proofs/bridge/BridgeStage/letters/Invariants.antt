@@ -1,5 +1,5 @@
 use Rattle.std.proofs.Common.{◌≡◌, take, map}
-use Rattle.samr_bridge.specs.Rows.{about}
+use Rattle.samr_bridge.specs.BridgeRow.{about}
 use Rattle.samr_bridge.proofs.bridge.BridgeStage.letters.Given as goal
 
 abbrev pub invariant-each : goal.invariant-each

@@ -3,7 +3,7 @@ use Rattle.std.specs.Prelude.{List}
 use Rattle.samr_cluster.specs.declared.nodes.Told.{Told}
 use Rattle.samr_cluster.specs.declared.nodes.Counted.{Counted}
 use Rattle.samr_cluster.specs.declared.verdict.Judged.{Judged}
-use Rattle.samr_cluster.specs.Verdicts.{judge}
+use Rattle.samr_cluster.specs.DecideRow.{judge}
 use Rattle.samr_cluster.specs.DecideParts.{other_directors, others_near}
 use Rattle.samr_cluster.proofs.DecideStage.{begins}
 use Rattle.samr_cluster.proofs.decide.Decide.start.Goals as goal

@@ -5,7 +5,7 @@ use Rattle.samr_stage.specs.declared.stage.Held.{Held}
 use Rattle.samr_cluster.specs.declared.verdict.Verdict.{Verdict}
 use Rattle.samr_cluster.specs.declared.verdict.Judged.{Judged}
 use Rattle.samr_cluster.specs.Rounds.{from_director, asked_of}
-use Rattle.samr_cluster.specs.Verdicts.{parts_in, taken_in, verdicts_for}
+use Rattle.samr_cluster.specs.DecideRow.{parts_in, taken_in, verdicts_for}
 use Rattle.samr_cluster.proofs.DecideStage.{ends}
 use Rattle.samr_cluster.proofs.decide.DecideStage.finish.Goals as goal
 

@@ -1,7 +1,7 @@
 use Rattle.std.proofs.Common.{ℕ, ap, ◌∙◌, map}
 use Rattle.std.proofs.lemmas.List.{take_all}
 use Rattle.std.specs.Prelude.{List}
-use Rattle.samr_cluster.specs.Verdicts.{verdicts_for}
+use Rattle.samr_cluster.specs.DecideRow.{verdicts_for}
 use Rattle.samr_cluster.proofs.DecideStage.{tells}
 use Rattle.samr_cluster.proofs.decide.DecideStage.letters.Goals as goal
 

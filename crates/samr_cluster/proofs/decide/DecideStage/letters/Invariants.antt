@@ -1,5 +1,5 @@
 use Rattle.std.proofs.Common.{◌≡◌, take, map}
-use Rattle.samr_cluster.specs.Verdicts.{verdicts_for}
+use Rattle.samr_cluster.specs.DecideRow.{verdicts_for}
 use Rattle.samr_cluster.proofs.decide.DecideStage.letters.Given as goal
 
 abbrev pub invariant-each : goal.invariant-each

@@ -1,4 +1,4 @@
-use Rattle.samr_cluster.proofs.EdgeStage.{begins}
+use Rattle.samr_cluster.proofs.EdgesStage.{begins}
 use Rattle.samr_cluster.proofs.edges.Edges.start.Goals as goal
 
 pub returns : goal.returns

@@ -5,7 +5,7 @@ use Rattle.samr_stage.specs.declared.stage.Held.{Held}
 use Rattle.samr_level.specs.Refs.{Link, turned}
 use Rattle.samr_level.specs.RefOrders.{edge_cmp, in_order}
 use Rattle.samr_level.specs.Overlaps.{of_rank}
-use Rattle.samr_cluster.proofs.EdgeStage.{ends}
+use Rattle.samr_cluster.proofs.EdgesStage.{ends}
 use Rattle.samr_cluster.proofs.edges.EdgesStage.finish.Goals as goal
 
 pub returns : goal.returns

@@ -2,7 +2,7 @@ use Rattle.std.proofs.Common.{ap, ◌∙◌, length, arith}
 use Rattle.samr_level.specs.Overlaps.{of_rank}
 use Rattle.samr_peers.proofs.PeerRows.{count_is}
 use Rattle.samr_cluster.specs.Accepting.{to_owners, to_near}
-use Rattle.samr_cluster.specs.EdgeRows.{with_boxes_of, edges_row}
+use Rattle.samr_cluster.specs.EdgesRow.{with_boxes_of, edges_row}
 use Rattle.samr_cluster.proofs.JoinLaws.{joined}
 use Rattle.samr_cluster.proofs.edges.EdgesStage.goal.Goals as goal
 

@@ -3,7 +3,7 @@ use Rattle.std.proofs.lemmas.List.{take_all}
 use Rattle.std.specs.Prelude.{List}
 use Rattle.samr_level.specs.RefOrders.{edge_cmp, in_order}
 use Rattle.samr_level.specs.Overlaps.{of_rank}
-use Rattle.samr_cluster.proofs.EdgeStage.{tells}
+use Rattle.samr_cluster.proofs.EdgesStage.{tells}
 use Rattle.samr_cluster.proofs.edges.EdgesStage.letters.Goals as goal
 
 pub returns-clause-letters : goal.returns-clause-letters

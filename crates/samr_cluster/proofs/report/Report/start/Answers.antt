@@ -8,7 +8,7 @@ use Rattle.samr_rounds.specs.Near.{is_near}
 use Rattle.samr_cluster.specs.declared.nodes.Told.{Told}
 use Rattle.samr_cluster.specs.declared.nodes.Directed.{Directed}
 use Rattle.samr_cluster.specs.DecideParts.{other_directors}
-use Rattle.samr_cluster.specs.Reports.{signs_for}
+use Rattle.samr_cluster.specs.ReportRow.{signs_for}
 use Rattle.samr_cluster.specs.ReportParts.{others_asked}
 use Rattle.samr_cluster.proofs.ReportStage.{starts_with, starts_letters}
 use Rattle.samr_cluster.proofs.report.Report.start.Goals as goal

@@ -4,7 +4,7 @@ use Rattle.std.specs.Prelude.{List}
 use Rattle.samr_stage.specs.declared.stage.Held.{Held}
 use Rattle.samr_sign.specs.Counts.{Sign}
 use Rattle.samr_cluster.specs.declared.nodes.Directed.{Directed}
-use Rattle.samr_cluster.specs.Reports.{count_in}
+use Rattle.samr_cluster.specs.ReportRow.{count_in}
 use Rattle.samr_cluster.specs.ReportParts.{CanCount}
 use Rattle.samr_cluster.proofs.ReportStage.{can_all, ends}
 use Rattle.samr_cluster.proofs.report.ReportStage.finish.Goals as goal

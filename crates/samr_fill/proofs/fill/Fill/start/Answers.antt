@@ -6,7 +6,7 @@ use Rattle.samr_sched.specs.declared.plan.BoxPlan.{BoxPlan}
 use Rattle.samr_sched.specs.declared.plan.Asked.{Asked}
 use Rattle.samr_fill.specs.Sending.{parcels_from, asked_of_itself, united, letters_from}
 use Rattle.samr_fill.proofs.BoxSearch.{all_by_corner}
-use Rattle.samr_fill.proofs.Stages.{has_letters}
+use Rattle.samr_fill.proofs.FillStage.{has_letters}
 use Rattle.samr_fill.proofs.fill.Fill.start.Goals as goal
 
 pub returns : goal.returns

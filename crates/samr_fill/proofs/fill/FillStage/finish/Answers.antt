@@ -1,4 +1,4 @@
-use Rattle.samr_fill.proofs.Stages.{ready_fields}
+use Rattle.samr_fill.proofs.FillStage.{ready_fields}
 use Rattle.samr_fill.proofs.fill.FillStage.finish.Goals as goal
 
 pub fill_fields-requires : goal.fill_fields-requires

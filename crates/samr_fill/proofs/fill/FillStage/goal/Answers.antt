@@ -1,5 +1,5 @@
 use Rattle.std.proofs.Common.{ap, ◌∙◌, length, arith}
-use Rattle.samr_fill.proofs.Stages.{awaits}
+use Rattle.samr_fill.proofs.FillStage.{awaits}
 use Rattle.samr_fill.proofs.fill.FillStage.goal.Goals as goal
 
 pub returns : goal.returns

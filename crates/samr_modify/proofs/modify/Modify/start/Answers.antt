@@ -5,8 +5,8 @@ use Rattle.samr_level.specs.declared.parts.Move.{Move}
 use Rattle.samr_level.specs.Refs.{Link}
 use Rattle.samr_modify.specs.Pieces.{Piece}
 use Rattle.samr_modify.specs.Entries.{entry}
-use Rattle.samr_modify.specs.Rows.{head_owners, owners, others}
-use Rattle.samr_modify.proofs.StageLemmas.{begins}
+use Rattle.samr_modify.specs.ModifyRow.{head_owners, owners, others}
+use Rattle.samr_modify.proofs.ModifyStage.{begins}
 use Rattle.samr_modify.proofs.modify.Modify.start.Goals as goal
 
 pub returns : goal.returns

@@ -4,7 +4,7 @@ use Rattle.samr_level.specs.Refs.{Link}
 use Rattle.samr_level.specs.RefOrders.{edge_cmp, in_order}
 use Rattle.samr_modify.specs.declared.entries.Replaced.{Replaced}
 use Rattle.samr_modify.specs.Found.{all_led, all_taken}
-use Rattle.samr_modify.proofs.StageLemmas.{ends}
+use Rattle.samr_modify.proofs.ModifyStage.{ends}
 use Rattle.samr_modify.proofs.modify.ModifyStage.finish.Goals as goal
 
 pub returns : goal.returns

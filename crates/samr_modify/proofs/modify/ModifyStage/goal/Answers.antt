@@ -1,5 +1,5 @@
 use Rattle.std.proofs.Common.{ap, ◌∙◌, length, arith}
-use Rattle.samr_modify.proofs.RowLaws.{count_is}
+use Rattle.samr_modify.proofs.ModifyRowLaws.{count_is}
 use Rattle.samr_modify.proofs.modify.ModifyStage.goal.Goals as goal
 
 pub returns : goal.returns

@@ -2,7 +2,7 @@ use Rattle.std.proofs.Common.{ℕ, ap, ◌∙◌, map}
 use Rattle.std.proofs.lemmas.List.{take_all}
 use Rattle.std.specs.Prelude.{List}
 use Rattle.samr_modify.specs.Entries.{told_to}
-use Rattle.samr_modify.proofs.StageLemmas.{tells}
+use Rattle.samr_modify.proofs.ModifyStage.{tells}
 use Rattle.samr_modify.proofs.modify.ModifyStage.letters.Goals as goal
 
 pub returns-clause-letters : goal.returns-clause-letters

@@ -3,7 +3,7 @@ use Rattle.std.specs.Prelude.{List, [], Option}
 use Rattle.std.specs.Option.{option_map}
 use Rattle.samr_level.specs.declared.parts.Pair.{Pair}
 use Rattle.samr_level.specs.Refs.{Link}
-use Rattle.samr_sched.specs.Asking.{HasLevels, HasEdges}
+use Rattle.samr_sched.specs.AskParts.{HasLevels, HasEdges}
 use Rattle.samr_sched.proofs.MadeLaws.{edges_without}
 use Rattle.samr_sched.proofs.ask.Ask.start.Goals as goal
 

@@ -1,5 +1,5 @@
 use Rattle.std.proofs.Common.{refl, ◌∙◌}
-use Rattle.samr_sched.proofs.StageRows.{ends}
+use Rattle.samr_sched.proofs.AskStage.{ends}
 use Rattle.samr_sched.proofs.ask.AskStage.finish.Goals as goal
 
 pub returns : goal.returns

@@ -1,5 +1,5 @@
 use Rattle.std.proofs.Common.{arith}
-use Rattle.samr_sched.proofs.StageRows.{awaits}
+use Rattle.samr_sched.proofs.AskStage.{awaits}
 use Rattle.samr_sched.proofs.ask.AskStage.goal.Goals as goal
 
 pub returns : goal.returns

@@ -1,8 +1,8 @@
 use Rattle.std.proofs.Common.{ℕ, ap, ◌∙◌, map}
 use Rattle.std.proofs.lemmas.List.{take_all}
 use Rattle.std.specs.Prelude.{List}
-use Rattle.samr_sched.specs.Making.{requests_by}
-use Rattle.samr_sched.proofs.StageRows.{tells}
+use Rattle.samr_sched.specs.PlansOfParts.{requests_by}
+use Rattle.samr_sched.proofs.AskStage.{tells}
 use Rattle.samr_sched.proofs.ask.AskStage.letters.Goals as goal
 
 pub returns-clause-letters : goal.returns-clause-letters

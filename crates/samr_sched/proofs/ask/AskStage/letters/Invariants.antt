@@ -1,5 +1,5 @@
 use Rattle.std.proofs.Common.{◌≡◌, take, map}
-use Rattle.samr_sched.specs.Making.{requests_by}
+use Rattle.samr_sched.specs.PlansOfParts.{requests_by}
 use Rattle.samr_sched.proofs.ask.AskStage.letters.Given as goal
 
 abbrev pub invariant-each : goal.invariant-each

@@ -1,4 +1,4 @@
-use Rattle.samr_tags.proofs.TellingLaws.{begins}
+use Rattle.samr_tags.proofs.BufferStage.{begins}
 use Rattle.samr_tags.proofs.buffer.Buffer.start.Goals as goal
 
 pub returns : goal.returns

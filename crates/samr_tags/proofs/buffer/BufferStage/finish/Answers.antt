@@ -6,7 +6,7 @@ use Rattle.samr_box.specs.Vector.{InRange, AtMost}
 use Rattle.samr_stage.specs.declared.stage.Held.{Held}
 use Rattle.samr_tags.specs.declared.seen.Seen.{Seen}
 use Rattle.samr_tags.specs.Marking.{AreMarked}
-use Rattle.samr_tags.proofs.TellingLaws.{seen_fit, heard_fit, ends}
+use Rattle.samr_tags.proofs.BufferStage.{seen_fit, heard_fit, ends}
 use Rattle.samr_tags.proofs.buffer.BufferStage.finish.Goals as goal
 
 pub all_marked-requires-clause-own : goal.all_marked-requires-clause-own

@@ -1,5 +1,5 @@
 use Rattle.std.proofs.Common.{ap, ◌∙◌, length, arith}
-use Rattle.samr_tags.proofs.TellingLaws.{awaits}
+use Rattle.samr_tags.proofs.BufferStage.{awaits}
 use Rattle.samr_tags.proofs.buffer.BufferStage.goal.Goals as goal
 
 pub returns : goal.returns

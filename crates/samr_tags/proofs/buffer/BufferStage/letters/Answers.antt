@@ -2,7 +2,7 @@ use Rattle.std.proofs.Common.{ℕ, ap, ◌∙◌, map}
 use Rattle.std.proofs.lemmas.List.{take_all}
 use Rattle.std.specs.Prelude.{List}
 use Rattle.samr_tags.specs.Seeing.{told_to}
-use Rattle.samr_tags.proofs.TellingLaws.{tells}
+use Rattle.samr_tags.proofs.BufferStage.{tells}
 use Rattle.samr_tags.proofs.buffer.BufferStage.letters.Goals as goal
 
 pub returns-clause-letters : goal.returns-clause-letters

@@ -3,8 +3,9 @@ use Rattle.std.specs.Prelude.{List}
 use Rattle.samr_box.specs.Corners.{Corners}
 use Rattle.samr_stage.specs.declared.stage.Held.{Held}
 use Rattle.samr_level.specs.Refs.{Link}
-use Rattle.samr_tags.specs.Covers.{needed_of, is_needed, AreAdded}
-use Rattle.samr_tags.proofs.CoverLaws.{ends}
+use Rattle.samr_tags.specs.CoverRow.{needed_of}
+use Rattle.samr_tags.specs.CoverParts.{is_needed, AreAdded}
+use Rattle.samr_tags.proofs.CoverStage.{ends}
 use Rattle.samr_tags.proofs.cover.CoverStage.finish.Goals as goal
 
 pub returns : goal.returns

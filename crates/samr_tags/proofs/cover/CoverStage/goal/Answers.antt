@@ -1,5 +1,5 @@
 use Rattle.std.proofs.Common.{ap, ◌∙◌, length, arith}
-use Rattle.samr_tags.proofs.CoverLaws.{awaits}
+use Rattle.samr_tags.proofs.CoverStage.{awaits}
 use Rattle.samr_tags.proofs.cover.CoverStage.goal.Goals as goal
 
 pub returns : goal.returns

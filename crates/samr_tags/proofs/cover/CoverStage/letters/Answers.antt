@@ -1,8 +1,8 @@
 use Rattle.std.proofs.Common.{ℕ, ap, ◌∙◌, map}
 use Rattle.std.proofs.lemmas.List.{take_all}
 use Rattle.std.specs.Prelude.{List}
-use Rattle.samr_tags.specs.Covers.{needed_of}
-use Rattle.samr_tags.proofs.CoverLaws.{tells}
+use Rattle.samr_tags.specs.CoverRow.{needed_of}
+use Rattle.samr_tags.proofs.CoverStage.{tells}
 use Rattle.samr_tags.proofs.cover.CoverStage.letters.Goals as goal
 
 pub returns-clause-letters : goal.returns-clause-letters

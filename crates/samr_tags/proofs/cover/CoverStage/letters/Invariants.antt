@@ -1,5 +1,5 @@
 use Rattle.std.proofs.Common.{◌≡◌, take, map}
-use Rattle.samr_tags.specs.Covers.{needed_of}
+use Rattle.samr_tags.specs.CoverRow.{needed_of}
 use Rattle.samr_tags.proofs.cover.CoverStage.letters.Given as goal
 
 abbrev pub invariant-each : goal.invariant-each

@@ -1,7 +1,7 @@
 use Rattle.std.proofs.Common.{ap, ◌∙◌}
 use Rattle.samr_box.specs.declared.vector.IVec.{IVec}
 use Rattle.samr_values.specs.Merging.{merges}
-use Rattle.samr_values.proofs.Starts.{can_start, has_merged}
+use Rattle.samr_values.proofs.CoarsenStart.{can_start, has_merged}
 use Rattle.samr_values.proofs.coarsen.Coarsen.start.Goals as goal
 
 pub letters_to-requires : goal.letters_to-requires

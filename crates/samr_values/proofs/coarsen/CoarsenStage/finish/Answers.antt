@@ -6,7 +6,7 @@ use Rattle.samr_data.specs.declared.parcel.Parcel.{Parcel}
 use Rattle.samr_values.specs.Parcels.{IsParcel}
 use Rattle.samr_values.specs.Merging.{parcels_with}
 use Rattle.samr_data.specs.Grids.{Grid}
-use Rattle.samr_values.proofs.Ends.{IsPouredFrom, all_are_parcels, ends}
+use Rattle.samr_values.proofs.CoarsenStage.{IsPouredFrom, all_are_parcels, ends}
 use Rattle.samr_values.proofs.coarsen.CoarsenStage.finish.Goals as goal
 
 pub poured_fields-requires-clause-parcels : goal.poured_fields-requires-clause-parcels

@@ -1,5 +1,5 @@
 use Rattle.std.proofs.Common.{ap, ◌∙◌, length, arith}
-use Rattle.samr_values.proofs.Ends.{awaits}
+use Rattle.samr_values.proofs.CoarsenStage.{awaits}
 use Rattle.samr_values.proofs.coarsen.CoarsenStage.goal.Goals as goal
 
 pub returns : goal.returns

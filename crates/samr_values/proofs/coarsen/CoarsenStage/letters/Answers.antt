@@ -1,5 +1,5 @@
 use Rattle.std.proofs.Common.{ap, ◌∙◌}
-use Rattle.samr_values.proofs.Ends.{tells}
+use Rattle.samr_values.proofs.CoarsenStage.{tells}
 use Rattle.samr_values.proofs.coarsen.CoarsenStage.letters.Goals as goal
 
 pub returns-clause-letters : goal.returns-clause-letters

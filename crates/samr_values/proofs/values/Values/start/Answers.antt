@@ -4,9 +4,9 @@ use Rattle.std.specs.Option.{option_map}
 use Rattle.samr_level.specs.declared.parts.Pair.{Pair}
 use Rattle.samr_level.specs.Refs.{Link}
 use Rattle.samr_values.specs.Patches.{AreBased}
-use Rattle.samr_values.specs.Renewals.{HasOld}
-use Rattle.samr_values.specs.Former.{back_edges}
-use Rattle.samr_values.proofs.Packs.{edges_with, edges_without, edges_same}
+use Rattle.samr_values.specs.ValuesParts.{HasOld}
+use Rattle.samr_values.specs.OldLevelEdges.{back_edges}
+use Rattle.samr_values.proofs.ValuesStart.{edges_with, edges_without, edges_same}
 use Rattle.samr_values.proofs.values.Values.start.Goals as goal
 
 pub made-requires-clause-based : goal.made-requires-clause-based

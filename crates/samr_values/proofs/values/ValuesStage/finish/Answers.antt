@@ -2,7 +2,7 @@ use Rattle.std.proofs.Common.{◌∙◌, subst}
 use Rattle.std.specs.Prelude.{List}
 use Rattle.samr_box.specs.Corners.{Corners}
 use Rattle.samr_box.specs.Lists.{Member}
-use Rattle.samr_values.proofs.Renews.{IsRenewedFrom, has_room, has_parcels, has_fits, has_step, renews}
+use Rattle.samr_values.proofs.ValuesStage.{IsRenewedFrom, has_room, has_parcels, has_fits, has_step, renews}
 use Rattle.samr_values.proofs.values.ValuesStage.finish.Goals as goal
 
 pub renewed_fields-requires-clause-few : goal.renewed_fields-requires-clause-few

@@ -1,5 +1,5 @@
 use Rattle.std.proofs.Common.{ap, ◌∙◌, length, arith}
-use Rattle.samr_values.proofs.Sent.{count_from}
+use Rattle.samr_values.proofs.ValuesRowLaws.{count_from}
 use Rattle.samr_values.proofs.values.ValuesStage.goal.Goals as goal
 
 pub returns : goal.returns

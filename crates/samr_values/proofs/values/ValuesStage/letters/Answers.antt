@@ -1,6 +1,6 @@
 use Rattle.std.proofs.Common.{ap, ◌∙◌, sym}
-use Rattle.samr_values.proofs.Sent.{letters_from}
-use Rattle.samr_values.proofs.Packs.{has_told}
+use Rattle.samr_values.proofs.ValuesRowLaws.{letters_from}
+use Rattle.samr_values.proofs.ValuesStart.{has_told}
 use Rattle.samr_values.proofs.values.ValuesStage.letters.Goals as goal
 
 pub returns-clause-letters : goal.returns-clause-letters

@@ -1,7 +1,0 @@
-use Rattle.std.proofs.Common.{◌≡◌, ◌++◌, take}
-use Rattle.std.specs.List.{flat_map}
-use Rattle.samr_cluster.specs.Verdicts.{taken_in}
-use Rattle.samr_cluster.proofs.telling.accepted_next.Given as goal
-
-abbrev pub invariant-loop-h : goal.invariant-loop-h
-invariant-loop-h l = l.accepted.items ≡ flat_map (λ v. taken_in v) l.fn.own ++ flat_map (λ h. flat_map (λ v. taken_in v) h.body) (take l.h-index l.held)

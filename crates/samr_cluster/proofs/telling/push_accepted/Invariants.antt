@@ -1,7 +1,0 @@
-use Rattle.std.proofs.Common.{◌≡◌, ◌++◌, take}
-use Rattle.std.specs.List.{flat_map}
-use Rattle.samr_cluster.specs.Verdicts.{taken_in}
-use Rattle.samr_cluster.proofs.telling.push_accepted.Given as goal
-
-abbrev pub invariant-loop-v : goal.invariant-loop-v
-invariant-loop-v l = l.accepted.items ≡ l.fn.accepted.items ++ flat_map (λ v. taken_in v) (take l.v-index l.verdicts)

@@ -1,5 +1,0 @@
-use Rattle.std.proofs.Common.{◌≡◌, length}
-use Rattle.samr_link.proofs.tests.first_back.Given as goal
-
-abbrev pub invariant-letters : goal.invariant-letters
-invariant-letters g l = (l.end.rank ≡ 0) × (length l.end.making ≡ 2)

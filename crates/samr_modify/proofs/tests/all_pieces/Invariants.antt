@@ -1,7 +1,0 @@
-use Rattle.std.proofs.Common.{◌≡◌, map}
-use Rattle.std.specs.List.{range_with_len}
-use Rattle.samr_modify.specs.Pieces.{pieces_of}
-use Rattle.samr_modify.proofs.tests.all_pieces.Given as goal
-
-abbrev pub invariant-each : goal.invariant-each
-invariant-each l = map (λ own. own.items) l.all.items ≡ map (λ rank. pieces_of rank l.moves) (range_with_len 0 l.rank)

@@ -1,7 +1,0 @@
-use Rattle.std.proofs.Common.{◌≡◌, map}
-use Rattle.std.specs.List.{range_with_len}
-use Rattle.samr_level.specs.Pairs.{pair}
-use Rattle.samr_modify.proofs.tests.pairs_of.Given as goal
-
-abbrev pub invariant-each : goal.invariant-each
-invariant-each l = l.pairs.items ≡ map (λ rank. pair l.fn.d l.fn.width l.fn.base.ratio l.fn.head.ratio l.fn.base.boxes.items l.fn.head.boxes.items rank) (range_with_len 0 l.rank)

@@ -1,8 +1,0 @@
-use Rattle.samr_box.proofs.Ranges.{InRange-lo, InRange-hi, FitsVector-plus, FitsVector-minus}
-use Rattle.samr_nest.proofs.tests.can_grow.Goals as goal
-
-pub minus-requires : goal.minus-requires
-minus-requires c = FitsVector-minus (InRange-lo c.b.invariant) c.requires
-
-pub plus-requires : goal.plus-requires
-plus-requires c = FitsVector-plus (InRange-hi c.b.invariant) c.requires

@@ -1,0 +1,4 @@
+pub mod FitPlans
+pub mod SmallLevels
+pub mod Owning
+pub mod AllPieces

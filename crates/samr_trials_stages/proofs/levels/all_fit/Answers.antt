@@ -1,0 +1,17 @@
+use Rattle.std.proofs.Common.{◌<◌, subst}
+use Rattle.std.proofs.lemmas.List.{take_all}
+use Rattle.std.proofs.lemmas.List.Elements.{All-more}
+use Rattle.std.specs.List.{All}
+use Rattle.samr_box.specs.Corners.{IsBox}
+use Rattle.samr_level.specs.Refs.{Owned}
+use Rattle.samr_trials_stages.proofs.levels.all_fit.Goals as goal
+
+pub loop-b-preserved : goal.loop-b-preserved
+loop-b-preserved c =
+    let P : Owned → Type 0 = λ b. (b.owner < c.args.ranks) × IsBox b.bx in
+    All-more P c.args.level.now c.loop-b.b-index c.b-item.result c.loop-b-test.true c.loop-b.invariant (subst P c.b-item.is (c.fits.ensures c.if-not-fits.false))
+
+pub returns : goal.returns
+returns c = λ t.
+    let P : Owned → Type 0 = λ b. (b.owner < c.args.ranks) × IsBox b.bx in
+    subst (All P) (take_all c.loop-b.b-index c.args.level.now c.loop-b-test.false) c.loop-b.invariant
