@@ -1,0 +1,9 @@
+pub mod Going
+pub mod AtOne
+pub mod Stretches
+pub mod Sequel
+pub mod Turning
+pub mod Stretch
+pub mod Journey
+pub mod Places
+pub mod OneOfTwo
