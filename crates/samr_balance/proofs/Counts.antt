@@ -107,6 +107,3 @@ module _ {X : Type 0} (R : X → X → Ordering) (o : IsTotalOrder R) (same : (a
   sorted_same xs ys e =
       rises_same (sorted R xs) (sorted R ys) (sorted_rises R o xs) (sorted_rises R o ys)
       (λ x. sum-sorted (is_x x) R xs ∙ e (is_x x) ∙ sym (sum-sorted (is_x x) R ys))
-
-  pub sorted_again : (xs : List X) → sorted R (sorted R xs) ≡ sorted R xs
-  sorted_again xs = sorted_same (sorted R xs) xs (λ f. sum-sorted f R xs)

@@ -1,15 +1,14 @@
 -- What a rank has before the letters home, and what it learns of its boxes from them.
 use Rattle.std.proofs.Common.{◌≡◌, ℕ, ◌+◌, ◌-◌, ◌*◌, ◌/◌, ◌<◌, refl, sym, ap, ◌∙◌, inl, inr, arith, nat_lt, nat_eq}
-use Rattle.std.proofs.lemmas.Bool.{cond-false, cond_both, cases_lt, lt-leb, le-ltb, eqb-true}
+use Rattle.std.proofs.lemmas.Bool.{cond_both, cases_lt, le-ltb, eqb-true}
 use Rattle.std.proofs.lemmas.Bool.Decides.{nat_tests}
 use Rattle.std.proofs.lemmas.List.Sums.{sum_by-append}
-use Rattle.std.proofs.Math.Nat.{div-le_self}
-use Rattle.std.specs.Prelude.{Bool, true, false, cond, ◌&&◌, List, [], ◌∷◌, ◌++◌, map, filter, sum_by, Some, None, nat_le}
+use Rattle.std.specs.Prelude.{Bool, true, false, cond, ◌&&◌, List, [], ◌∷◌, ◌++◌, map, filter, sum_by, Some, None}
 use Rattle.std.specs.List.{flat_map, range_with_len}
 use Rattle.std.specs.Ordering.{nat_cmp, ordering_then, is_eq}
 use Rattle.std.specs.declared.cmp.Ordering.{Ordering}
 use Rattle.std.specs.declared.cmp.Ordering.TheVariants.{Less, Equal, Greater}
-use Rattle.samr_box.specs.Corners.{Corners, longest_of}
+use Rattle.samr_box.specs.Corners.{Corners}
 use Rattle.samr_box.specs.Orders.{corner_cmp}
 use Rattle.samr_bits.proofs.Sums.{sum_ext}
 use Rattle.samr_stage.specs.declared.stage.Held.{Held}
@@ -19,49 +18,23 @@ use Rattle.samr_level.specs.RefOrders.{ref_cmp}
 use Rattle.samr_level.specs.Levels.{own}
 use Rattle.samr_level.specs.declared.parts.Move.{Move}
 use Rattle.samr_level.proofs.RefLaws.{ref_total, same_from_ref_cmp}
-use Rattle.samr_tree.specs.Tree.{second_child, depth, bottom}
+use Rattle.samr_tree.specs.Tree.{depth, bottom}
 use Rattle.samr_tree.proofs.TreeLemmas.{depth_up}
 use Rattle.samr_load.specs.Pieces.{Placed, piece_cmp, sorted}
-use Rattle.samr_load.specs.Taking.{Parted, across, planes_taken, lower, upper, taking, parted}
-use Rattle.samr_load.specs.Ascent.{Balancing, Climb, up_of, stayed}
-use Rattle.samr_load.specs.Descent.{Fall, down, got}
+use Rattle.samr_load.specs.Ascent.{Balancing, Climb, up_of}
 use Rattle.samr_load.specs.Balanced.{owned_by}
 use Rattle.samr_load.specs.Laws.{boxes_of}
-use Rattle.samr_load.proofs.Totals.{Each, each_head, each_sorted, each_append}
-use Rattle.samr_load.proofs.Parting.{IsSolid}
-use Rattle.samr_load.proofs.PieceOrder.{piece_total, same_from_piece_cmp}
-use Rattle.samr_load.proofs.TakeSteps.{taking_cuts}
-use Rattle.samr_load.proofs.Shapes.{solid_inherits, some_cells}
-use Rattle.samr_load.proofs.Ascents.{up_outside, stayed_each}
-use Rattle.samr_load.proofs.Descents.{down_step, got_each}
-use Rattle.samr_load.proofs.Wholes.{own_solid}
+use Rattle.samr_load.proofs.Totals.{Each, each_sorted}
+use Rattle.samr_load.proofs.Ascents.{up_outside}
+use Rattle.samr_load.proofs.Descents.{down_stays}
 use Rattle.samr_balance.specs.declared.homed.Homed.{Homed}
 use Rattle.samr_balance.specs.Rounds.{Round, going_down}
 use Rattle.samr_balance.specs.Home.{Homes, balancing_of, pieces_in, news_on, news_of, move_of, olds_of, homed_of, AreHomes, IsHome, HasPieces}
 use Rattle.samr_balance.specs.HomeRow.{Cutting, cutting_of, cutting_cmp, of_owner, told_of, home_row, told_on, kept_on}
-use Rattle.samr_balance.proofs.Counts.{sum-sorted, sum-map, sum-filter, sum-same, sum-flat_map, sorted_same, sorted_again}
+use Rattle.samr_balance.proofs.Counts.{sum-sorted, sum-map, sum-filter, sum-same, sum-flat_map, sorted_same}
 use Rattle.samr_balance.proofs.LineSums.{sum_range}
 use Rattle.samr_balance.proofs.RoundHands.{down_at, down_past, within_bottom}
 use Rattle.samr_balance.proofs.HomeRowLaws.{sum_heard}
-
--- where nothing is wanted all stays
-module _ (s : ℕ) (some : 0 < s) where
-  rest_all : (qs : List Placed) → Each IsSolid qs → (taking s qs 0).rest ≡ qs
-  unfolding taking
-  rest_all [] full = refl
-  rest_all (q ∷ qs) full =
-      let h = each_head IsSolid q qs full in
-      let a = across (longest_of q.bx) q.bx in
-      let none : nat_le s (planes_taken s q.bx 0) ≡ false =
-      lt-leb s (planes_taken s q.bx 0) (omega (arith, div-le_self 0 a, some)) in
-      ap (λ (p : Parted). p.rest) (taking_cuts s q qs 0 (some_cells q.bx h))
-      ∙ ap (λ (p : Parted). p.rest)
-      (cond-false {A = Parted} (nat_le s (planes_taken s q.bx 0))
-      (record { taken = lower s q 0 ∷ []; rest = upper s q 0 ∷ qs })
-      (record { taken = []; rest = q ∷ qs }) none)
-
-  all_stays : (qs : List Placed) → Each IsSolid qs → (parted s qs 0).rest ≡ sorted piece_cmp qs
-  all_stays qs full = rest_all (sorted piece_cmp qs) (each_sorted IsSolid piece_cmp qs full)
 
 -- a rank of the last depth has no children
 pub no_child : (ranks rank k : ℕ) → depth rank ≡ bottom ranks → 0 < k → (k - 1) / 2 ≡ rank → nat_lt k ranks ≡ false
@@ -77,10 +50,7 @@ no_need : (b : Balancing) (k : ℕ) → nat_lt k b.ranks ≡ false → (up_of b 
 no_need b k off =
     ap (λ (t : Bool). (up_of b (cond t (Some k) None)).need) off ∙ ap (λ (c : Climb). c.need) (up_outside b)
 
-module _ (w : Homes) (h : AreHomes w) (r : ℕ) (within : r < w.ranks) where
-  full : (rank : ℕ) → rank < w.ranks → Each IsSolid ((balancing_of w).own rank)
-  full = own_solid w.quota w.ranks w.smallest w.boxes h.some (λ o m. (h.owned o m).0)
-
+module _ (w : Homes) (r : ℕ) (within : r < w.ranks) where
   -- what a rank has after the way down, in order
   pub ends_with : sorted piece_cmp (going_down (record { balancing = balancing_of w; round = bottom w.ranks }) r).pieces ≡ pieces_in w r
   ends_with = elim (cases_lt (depth r) (bottom w.ranks)) [
@@ -91,24 +61,9 @@ module _ (w : Homes) (h : AreHomes w) (r : ℕ) (within : r < w.ranks) where
         let at : Round = record { balancing = balancing_of w; round = bottom w.ranks } in
         let b = balancing_of w in
         let last : depth r ≡ bottom w.ranks = omega (arith, rest, within_bottom w.ranks r within) in
-        let hand = stayed b r ++ got b r in
-        let solid =
-        each_append IsSolid (stayed b r) (got b r)
-        (stayed_each b IsSolid solid_inherits (λ q s. s) h.some full r within)
-        (got_each b IsSolid solid_inherits (λ q s. s) h.some full r within) in
         let one = no_need b (2 * r + 1) (no_child w.ranks r (2 * r + 1) last (omega arith) (omega arith)) in
         let two = no_need b (2 * r + 2) (no_child w.ranks r (2 * r + 2) last (omega arith) (omega arith)) in
-        let first_rest = all_stays w.smallest h.some hand solid in
-        let left : (down b r).left ≡ sorted piece_cmp (sorted piece_cmp hand) =
-        ap (λ (f : Fall). f.left) (down_step b r)
-        ∙ ap (λ n. (parted w.smallest (parted w.smallest hand n).rest (up_of b (second_child w.ranks r)).need).rest) one
-        ∙ ap (λ n. (parted w.smallest (parted w.smallest hand 0).rest n).rest) two
-        ∙ ap (λ l. (parted w.smallest l 0).rest) first_rest
-        ∙ all_stays w.smallest h.some (sorted piece_cmp hand) (each_sorted IsSolid piece_cmp hand solid) in
-        ap (λ v. sorted piece_cmp v.pieces) (down_at at r last)
-        ∙ sym (sorted_again piece_cmp piece_total same_from_piece_cmp hand)
-        ∙ sym (ap (sorted piece_cmp) (sorted_again piece_cmp piece_total same_from_piece_cmp hand))
-        ∙ sym (ap (sorted piece_cmp) left)
+        ap (λ v. sorted piece_cmp v.pieces) (down_at at r last) ∙ sym (ap (sorted piece_cmp) (down_stays b r one two))
   ]
 
 -- a rank's boxes with the rank as owner are its boxes
@@ -142,7 +97,7 @@ begins rank ranks hand cuts w r is pieces olds e f = record {
   same_rank = is.same_rank;
   same_ranks = is.same_ranks;
   within = is.within;
-  same_pieces = e ∙ ap (sorted piece_cmp) is.same_hand ∙ ends_with w is.homes r is.within;
+  same_pieces = e ∙ ap (sorted piece_cmp) is.same_hand ∙ ends_with w r is.within;
   same_olds =
       f ∙ ap (λ (n : ℕ). sorted ref_cmp (map (λ (b : Corners). let o : Owned = record { owner = n; bx = b } in o) cuts)) is.same_rank
       ∙ ap (λ (l : List Corners). sorted ref_cmp (map (λ (b : Corners). let o : Owned = record { owner = r; bx = b } in o) l)) is.same_cuts

@@ -7,6 +7,7 @@ pub mod LineSums
 pub mod CuttingOrder
 pub mod HomeRowLaws
 pub mod HomeStage
+pub mod Unvisited
 pub mod OnAllLaws
 pub mod HomeLaws
 pub mod HomeTold

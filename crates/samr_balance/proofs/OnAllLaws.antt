@@ -1,6 +1,6 @@
 -- All ranks through all rounds of a balance.
-use Rattle.std.proofs.Common.{◌≡◌, ℕ, zero, suc, ◌+◌, ◌*◌, ◌<◌, ◌^◌, List, [], ◌∷◌, ◌++◌, refl, sym, ap, ◌∙◌, subst, arith, nat_lt, inl, inr, length, get_or, take, map, slice_get, append-nil, to_z, of_z}
-use Rattle.std.specs.Prelude.{Bool, false, cond, Some, None, All, ℤ, pos, ◌≤ℤ◌, unsigned_abs, FitsSigned}
+use Rattle.std.proofs.Common.{◌≡◌, ℕ, zero, suc, ◌+◌, ◌*◌, ◌<◌, ◌^◌, List, [], ◌∷◌, ◌++◌, refl, sym, ap, ◌∙◌, subst, arith, inl, inr, length, get_or, take, map, slice_get, append-nil, to_z, of_z}
+use Rattle.std.specs.Prelude.{Some, All, ℤ, pos, ◌≤ℤ◌, unsigned_abs, FitsSigned}
 use Rattle.std.specs.Int.{w64}
 use Rattle.std.specs.List.{range_with_len}
 use Rattle.std.proofs.lemmas.Int.{ints, to_z-of_z}
@@ -14,16 +14,15 @@ use Rattle.samr_box.proofs.Members.{member_of_All}
 use Rattle.samr_level.specs.Refs.{Owned}
 use Rattle.samr_level.specs.Levels.{own}
 use Rattle.samr_stage.specs.Exchange.{AreResults}
-use Rattle.samr_tree.specs.Tree.{second_child, depth, bottom}
+use Rattle.samr_tree.specs.Tree.{depth, bottom}
 use Rattle.samr_tree.proofs.TreeLemmas.{depth_up}
 use Rattle.samr_tree.proofs.OnAllLemmas.{each_more}
 use Rattle.samr_load.specs.Pieces.{Placed, whole}
-use Rattle.samr_load.specs.Ascent.{Balancing, Climb, up_of, up, stayed}
+use Rattle.samr_load.specs.Ascent.{Balancing, stayed}
 use Rattle.samr_load.specs.Descent.{got}
 use Rattle.samr_load.specs.Balanced.{quota_of, cells_in}
 use Rattle.samr_load.specs.Laws.{AreOwned, boxes_of}
 use Rattle.samr_load.proofs.QuotaSums.{quotas_all}
-use Rattle.samr_load.proofs.Ascents.{up_outside, up_hand}
 use Rattle.samr_load.proofs.Descents.{got_root}
 use Rattle.samr_load.proofs.Wholes.{own_solid, own_load}
 use Rattle.samr_balance.specs.declared.hands.Needs.{Needs}
@@ -35,7 +34,7 @@ use Rattle.samr_balance.specs.WayDown.{after_down}
 use Rattle.samr_balance.specs.Home.{Homes, balancing_of, homed_of, AreHomes, IsHome}
 use Rattle.samr_balance.specs.Laws.{IsHomed}
 use Rattle.samr_balance.specs.OnAll.{homes_of, round_at, AreHands}
-use Rattle.samr_balance.proofs.RoundHands.{up_before, up_at, up_past, down_before, down_at, within_bottom}
+use Rattle.samr_balance.proofs.RoundHands.{childless, up_before, up_at, up_past, down_before, down_at, within_bottom}
 use Rattle.samr_balance.proofs.HomeStage.{no_child, owned_again}
 
 pub list_again : (boxes : List Owned) (i : ℕ) (o : Owned) (before after : List Owned) → i < length boxes → o ≡ get_or boxes i o
@@ -107,28 +106,15 @@ module _ (ranks s : ℕ) (boxes : List Owned) (ranked : 0 < ranks) (some : 0 < s
     fair = fair;
   }
 
-  no_gift : (k : ℕ) → nat_lt k ranks ≡ false → up_of b (cond (nat_lt k ranks) (Some k) None) ≡ up_of b None
-  no_gift k off = ap (λ (t : Bool). up_of b (cond t (Some k) None)) off
-
   -- at first each rank has its own boxes
   pub starts : (rank : ℕ) → rank < ranks → hand_of (map whole (own rank boxes)) no_needs ≡ going_up (round_at ranks s boxes 0) rank
   starts rank inside = elim (cases_lt (depth rank + 0) (bottom ranks)) [
     | inl before ↦ sym (up_before (round_at ranks s boxes 0) rank before)
     | inr rest ↦
         let last : depth rank ≡ bottom ranks = omega (arith, rest, within_bottom ranks rank inside) in
-        let one = no_gift (2 * rank + 1) (no_child ranks rank (2 * rank + 1) last (omega arith) (omega arith)) ∙ up_outside b in
-        let two = no_gift (2 * rank + 2) (no_child ranks rank (2 * rank + 2) last (omega arith) (omega arith)) ∙ up_outside b in
-        let mine = map whole (own rank boxes) in
-        let pieces : (up b rank).hand ≡ mine =
-        up_hand b rank inside
-        ∙ ap (λ (c : Climb). mine ++ c.given ++ (up_of b (second_child ranks rank)).given) one
-        ∙ ap (λ (c : Climb). mine ++ [] ++ c.given) two
-        ∙ append-nil (mine ++ []) ∙ append-nil mine in
-        let needs : needs_of b rank ≡ no_needs =
-        ap (λ (c : Climb). let n : Needs = record { first = c.need; second = (up_of b (second_child ranks rank)).need } in n) one
-        ∙ ap (λ (c : Climb). let n : Needs = record { first = 0; second = c.need } in n) two in
-        sym (up_at (round_at ranks s boxes 0) rank (omega (arith, last))
-        ∙ ap (λ (l : List Placed). hand_of l (needs_of b rank)) pieces ∙ ap (λ (n : Needs). hand_of mine n) needs)
+        let one = no_child ranks rank (2 * rank + 1) last (omega arith) (omega arith) in
+        let two = no_child ranks rank (2 * rank + 2) last (omega arith) (omega arith) in
+        sym (up_at (round_at ranks s boxes 0) rank (omega (arith, last)) ∙ childless b rank inside one two)
   ]
 
   pub first_is : (rank : ℕ) → rank < ranks → (cuts : List Corners) → cuts ≡ boxes_of (own rank boxes) → (pieces : List Placed)

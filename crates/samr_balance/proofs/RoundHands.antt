@@ -1,15 +1,17 @@
 -- What a rank has before a round, by its depth.
-use Rattle.std.proofs.Common.{◌≡◌, ℕ, zero, suc, ◌+◌, ◌-◌, ◌<◌, ◌≤◌, ◌^◌, ◌++◌, refl, sym, ap, ◌∙◌, arith, nat_lt}
+use Rattle.std.proofs.Common.{◌≡◌, ℕ, zero, suc, ◌+◌, ◌-◌, ◌*◌, ◌<◌, ◌≤◌, ◌^◌, List, [], ◌++◌, refl, sym, ap, ◌∙◌, arith, nat_lt, append-nil}
+use Rattle.std.specs.Prelude.{Bool, false, cond, Some, None}
 use Rattle.std.proofs.lemmas.Bool.{cond-true, cond-false, lt-ltb, le-ltb}
-use Rattle.samr_tree.specs.Tree.{depth, bottom}
+use Rattle.samr_tree.specs.Tree.{second_child, depth, bottom}
 use Rattle.samr_tree.proofs.TreeLemmas.{depth_rising}
-use Rattle.samr_load.specs.Pieces.{size_of, load}
-use Rattle.samr_load.specs.Ascent.{Balancing, up, stayed}
+use Rattle.samr_load.specs.Pieces.{Placed, size_of, load}
+use Rattle.samr_load.specs.Ascent.{Balancing, Climb, up_of, up, stayed}
 use Rattle.samr_load.specs.Descent.{down, got}
 use Rattle.samr_load.proofs.Totals.{total-append}
 use Rattle.samr_load.proofs.Shapes.{cells_shared}
-use Rattle.samr_load.proofs.Ascents.{up_wanted}
+use Rattle.samr_load.proofs.Ascents.{up_outside, up_hand, up_wanted}
 use Rattle.samr_load.proofs.Keeping.{hand_within, down_within, wanted_within, need_again}
+use Rattle.samr_balance.specs.declared.hands.Needs.{Needs}
 use Rattle.samr_balance.specs.declared.hands.Hand.{Hand}
 use Rattle.samr_balance.specs.Rounds.{Round, hand_of, needs_of, no_needs, going_up, going_down, IsFair}
 
@@ -72,6 +74,23 @@ stayed_root b (suc rank) root = absurd (omega (arith, root))
 pub stayed_above : (b : Balancing) (rank : ℕ) → 0 < rank → stayed b rank ≡ (up b rank).kept
 stayed_above b zero above = absurd (omega (arith, above))
 stayed_above b (suc rank) above = refl
+
+-- a rank without children has its own pieces, and knows of no needs
+pub childless : (b : Balancing) (rank : ℕ) → rank < b.ranks → nat_lt (2 * rank + 1) b.ranks ≡ false → nat_lt (2 * rank + 2) b.ranks ≡ false
+    → hand_of (up b rank).hand (needs_of b rank) ≡ hand_of (b.own rank) no_needs
+childless b rank inside first second =
+    let one = ap (λ (t : Bool). up_of b (cond t (Some (2 * rank + 1)) None)) first ∙ up_outside b in
+    let two = ap (λ (t : Bool). up_of b (cond t (Some (2 * rank + 2)) None)) second ∙ up_outside b in
+    let mine = b.own rank in
+    let pieces : (up b rank).hand ≡ mine =
+    up_hand b rank inside
+    ∙ ap (λ (c : Climb). mine ++ c.given ++ (up_of b (second_child b.ranks rank)).given) one
+    ∙ ap (λ (c : Climb). mine ++ [] ++ c.given) two
+    ∙ append-nil (mine ++ []) ∙ append-nil mine in
+    let needs : needs_of b rank ≡ no_needs =
+    ap (λ (c : Climb). let n : Needs = record { first = c.need; second = (up_of b (second_child b.ranks rank)).need } in n) one
+    ∙ ap (λ (c : Climb). let n : Needs = record { first = 0; second = c.need } in n) two in
+    ap (λ (l : List Placed). hand_of l (needs_of b rank)) pieces ∙ ap (λ (n : Needs). hand_of mine n) needs
 
 -- no rank has or wants more than fits
 module _ (b : Balancing) (fair : IsFair b) (rank : ℕ) (inside : rank < b.ranks) where

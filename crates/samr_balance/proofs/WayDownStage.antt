@@ -9,17 +9,16 @@ use Rattle.samr_stage.specs.Row.{told, heard, column}
 use Rattle.samr_tree.specs.Tree.{first_child, second_child, depth, told_down}
 use Rattle.samr_tree.proofs.TreeLemmas.{depth_root, depth_up}
 use Rattle.samr_load.specs.Pieces.{Placed, load}
-use Rattle.samr_load.specs.Ascent.{Balancing, up_of, up, stayed}
+use Rattle.samr_load.specs.Ascent.{up_of, up, stayed}
 use Rattle.samr_load.specs.Descent.{Fall, fall, down, got}
 use Rattle.samr_load.proofs.Totals.{Each}
 use Rattle.samr_load.proofs.Parting.{IsSolid}
-use Rattle.samr_load.proofs.Shapes.{solid_inherits, some_cells}
-use Rattle.samr_load.proofs.Descents.{got_left, got_right, got_each}
-use Rattle.samr_load.proofs.Bound.{got_fits}
+use Rattle.samr_load.proofs.Shapes.{some_cells}
+use Rattle.samr_load.proofs.Descents.{got_none, got_left, got_right}
 use Rattle.samr_load.proofs.PlainSteps.{falls}
 use Rattle.samr_balance.specs.declared.hands.Needs.{Needs}
 use Rattle.samr_balance.specs.declared.hands.Hand.{Hand}
-use Rattle.samr_balance.specs.Rounds.{Round, next, hand_of, needs_of, going_down, IsFair}
+use Rattle.samr_balance.specs.Rounds.{Round, next, hand_of, needs_of, going_down}
 use Rattle.samr_balance.specs.WayDown.{is_given, down_row, gave_down, after_down, IsDown, HasGivenDown}
 use Rattle.samr_balance.specs.StageLaws.{given_inside}
 use Rattle.samr_balance.proofs.FamilyLines.{of_child, along_children, along_nobody, along_parent, count_parent}
@@ -51,12 +50,6 @@ letter_to need pieces child = option_map_or (λ c. cond (nat_lt 0 need) ((c, pie
 pub no_cells : (l : List Placed) → Each IsSolid l → load l ≡ 0 → l ≡ []
 no_cells [] solid none = refl
 no_cells (q ∷ qs) solid none = let some = some_cells q.bx (solid q (inl refl)) in absurd (omega (arith, some, none))
-
--- a rank that needs nothing is given nothing
-pub got_none : (b : Balancing) → IsFair b → (rank : ℕ) → rank < b.ranks → (up b rank).need ≡ 0 → got b rank ≡ []
-got_none b fair rank inside none =
-    no_cells (got b rank) (got_each b IsSolid solid_inherits (λ q h. h) fair.some fair.not_empty rank inside)
-    (omega (arith, got_fits b fair.some rank inside, none))
 
 module _ (w : Round) where
   abbrev turn : ℕ → Bool
@@ -276,5 +269,5 @@ module _ (rank ranks round : ℕ) (pieces : List Placed) (needs : Needs) (quota 
           | inr none ↦
               let off = and_right (told_down w.balancing.ranks w.round r) (nat_lt 0 (up w.balancing r).need) (le-ltb 0 (up w.balancing r).need none) in
               ap (flat_map (λ (h : Held (List Placed)). h.body)) (are ∙ heard_nobody w r off)
-              ∙ sym (got_none w.balancing is.fair r is.within (omega (arith, none)))
+              ∙ sym (got_none w.balancing r is.within (omega (arith, none)))
         ]

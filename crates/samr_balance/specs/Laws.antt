@@ -1,5 +1,5 @@
 -- What a balance keeps: the pieces of a box have its cells, and no rank has much more than its share.
-use Rattle.std.specs.Prelude.{◌≡◌, ◌≢◌, ◌↔◌, is_some, IsTrue, ℕ, ◌+◌, ◌*◌, ◌<◌, ◌≤◌, List}
+use Rattle.std.specs.Prelude.{◌≡◌, ◌≢◌, ◌↔◌, is_some, IsTrue, false, ℕ, ◌+◌, ◌*◌, ◌<◌, ◌≤◌, List}
 use Rattle.samr_box.specs.declared.vector.IVec.{IVec}
 use Rattle.samr_box.specs.Vector.{AtMost}
 use Rattle.samr_box.specs.Corners.{Holds, longest_of}
@@ -15,6 +15,9 @@ use Rattle.samr_load.specs.Laws.{boxes_of, same_as, grain}
 use Rattle.samr_balance.specs.declared.homed.Homed.{Homed}
 use Rattle.samr_balance.specs.Home.{Homes, pieces_in, homed_of, AreHomes}
 use Rattle.samr_balance.specs.HomeRow.{home_row}
+use Rattle.samr_balance.specs.Rounds.{Round, next, going_up, going_down}
+use Rattle.samr_balance.specs.WayUp.{visits_up}
+use Rattle.samr_balance.specs.WayDown.{visits_down}
 
 -- what becomes of a box: new boxes that are not empty, on the ranks, and lie in it. Each cell lies in as many of them as in the
 -- boxes that are this one: in a level in one, where the box has it
@@ -37,3 +40,10 @@ abbrev pub LettersGoHome : Type 0
 LettersGoHome =
     (w : Homes) (from to : ℕ) → AreHomes w → from < w.ranks → to < w.ranks → from ≢ to
     → IsTrue (is_some (home_row w from to)) ↔ ((q : Placed) × Member q (pieces_in w from) × (q.origin.owner ≡ to))
+
+-- a rank's hand stays as it is in a round that it does not visit
+abbrev pub HandsStayUp : Type 0
+HandsStayUp = (w : Round) (rank : ℕ) → rank < w.balancing.ranks → visits_up w rank ≡ false → going_up (next w) rank ≡ going_up w rank
+
+abbrev pub HandsStayDown : Type 0
+HandsStayDown = (w : Round) (rank : ℕ) → rank < w.balancing.ranks → visits_down w rank ≡ false → going_down (next w) rank ≡ going_down w rank

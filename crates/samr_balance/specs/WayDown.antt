@@ -1,12 +1,12 @@
 -- One round of the way down: ranks give their children what these need, if they need anything.
-use Rattle.std.specs.Prelude.{ℕ, ◌-◌, ◌/◌, ◌&&◌, ℤ, List, Bool, nat_eq, nat_lt, Option, Some, None, if◌then◌else◌}
+use Rattle.std.specs.Prelude.{ℕ, ◌-◌, ◌/◌, ◌&&◌, ◌||◌, ℤ, List, Bool, nat_eq, nat_lt, Option, Some, None, if◌then◌else◌}
 use Rattle.samr_tree.specs.Tree.{depth, told_down}
 use Rattle.samr_load.specs.Pieces.{Placed}
 use Rattle.samr_load.specs.Ascent.{up}
 use Rattle.samr_load.specs.Descent.{got}
 use Rattle.samr_balance.specs.declared.hands.Needs.{Needs}
 use Rattle.samr_balance.specs.declared.hands.Hand.{Hand}
-use Rattle.samr_balance.specs.Rounds.{Round, next, going_down, IsPart}
+use Rattle.samr_balance.specs.Rounds.{Round, next, needs_of, going_down, IsPart}
 
 -- a rank is told in the round of its parent's depth, if it needs something
 abbrev pub is_given : Round → ℕ → Bool
@@ -14,6 +14,13 @@ is_given w rank = told_down w.balancing.ranks w.round rank && nat_lt 0 (up w.bal
 
 unfoldable pub down_row : Round → ℕ → ℕ → Option (List Placed)
 down_row w from to = if (is_given w to && nat_eq ((to - 1) / 2) from) then Some (got w.balancing to) else None
+
+-- a rank visits the round of its depth if a child needs something, and the one before if it needs something itself
+abbrev pub needs_any : Needs → Bool
+needs_any needs = nat_lt 0 needs.first || nat_lt 0 needs.second
+
+abbrev pub visits_down : Round → ℕ → Bool
+visits_down w rank = (nat_eq (depth rank) w.round && needs_any (needs_of w.balancing rank)) || is_given w rank
 
 -- what a rank has once it has given, and after the round
 abbrev pub gave_down : Round → ℕ → Hand

@@ -1,5 +1,5 @@
 -- One round of the way up: ranks give their parents what they have too much, and tell them what they need.
-use Rattle.std.specs.Prelude.{ℕ, ◌-◌, ◌/◌, ◌%◌, ◌&&◌, ℤ, List, nat_eq, Option, Some, None, if◌then◌else◌}
+use Rattle.std.specs.Prelude.{ℕ, ◌+◌, ◌*◌, ◌-◌, ◌/◌, ◌%◌, ◌&&◌, ◌||◌, ℤ, List, Bool, nat_eq, Option, Some, None, if◌then◌else◌}
 use Rattle.samr_stage.specs.declared.stage.Held.{Held}
 use Rattle.samr_tree.specs.Tree.{tells_up}
 use Rattle.samr_load.specs.Pieces.{Placed}
@@ -16,6 +16,12 @@ gift b rank = record { pieces = (up b rank).given; need = (up b rank).need }
 unfoldable pub up_row : Round → ℕ → ℕ → Option Gift
 up_row w from to =
     if (tells_up w.balancing.ranks w.round from && nat_eq ((from - 1) / 2) to) then Some (gift w.balancing from) else None
+
+-- a rank visits the round in which it tells its parent, and the one in which a child tells it
+abbrev pub visits_up : Round → ℕ → Bool
+visits_up w rank =
+    tells_up w.balancing.ranks w.round rank
+    || (tells_up w.balancing.ranks w.round (2 * rank + 1) || tells_up w.balancing.ranks w.round (2 * rank + 2))
 
 -- what a rank has once it has given, and after the round
 abbrev pub gave_up : Round → ℕ → Hand

@@ -20,7 +20,7 @@ pub use cuttings::Cutting;
 pub use hands::{Gift, Hand, Needs};
 pub use home::Home;
 pub use homed::Homed;
-pub use laws::letters_go_home;
+pub use laws::{hands_stay, letters_go_home};
 pub use on_all::balance_all;
 pub use way_down::Down;
 pub use way_up::Up;

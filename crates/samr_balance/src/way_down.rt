@@ -20,8 +20,9 @@ use std::alloc::{AllocError as NoMemory, Global};
 use std::mem;
 
 /// One round of the way down the tree. In the round in which it is its children's turn a rank gives
-/// each that needs something what a take gives of it. In the round in which it is its own turn it adds
-/// what its parent gives to its hand.
+/// each that needs something what a take gives of it, also where that is nothing; its hand stays as it
+/// is where none of them needs anything. In the round in which it is its own turn it adds what its
+/// parent gives to its hand.
 #[derive(Drop)]
 pub struct Down {
     rank: u16,

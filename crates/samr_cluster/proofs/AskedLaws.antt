@@ -1,7 +1,7 @@
 -- The ranks that a director keeps with a node are those that were told it.
 use Rattle.std.proofs.Common.{◌≡◌, ℕ, zero, suc, ◌<◌, refl, sym, ap, subst, arith}
 use Rattle.std.specs.Prelude.{List, ◌↔◌}
-use Rattle.std.specs.List.{range_with_len}
+use Rattle.std.specs.List.{flat_map, range_with_len}
 use Rattle.samr_box.specs.Corners.{Corners}
 use Rattle.samr_box.specs.Space.{finer}
 use Rattle.samr_box.specs.Lists.{Member}
@@ -10,11 +10,12 @@ use Rattle.samr_level.specs.Levels.{own_boxes}
 use Rattle.samr_rounds.specs.Clusters.{parts, decided}
 use Rattle.samr_rounds.specs.Rounds.{below, told, directed}
 use Rattle.samr_rounds.proofs.Open.{Member-below, Member-from_below}
+use Rattle.samr_rounds.proofs.Sorting.{Member-sorted, Member-from_sorted}
 use Rattle.samr_rounds.proofs.NearLaws.{near_told}
 use Rattle.samr_peers.proofs.PeerRows.{Member-range}
 use Rattle.samr_cluster.specs.declared.nodes.Directed.{Directed}
 use Rattle.samr_cluster.specs.Cluster.{Clustering, IsClustering, near, near_to}
-use Rattle.samr_cluster.specs.Rounds.{Round, open_of, told_of, near_of, asked_of, directed_after}
+use Rattle.samr_cluster.specs.Rounds.{Round, open_of, told_of, near_of, asked_of, directed_less, directed_after}
 use Rattle.samr_cluster.proofs.NodeLaws.{near_below, near_member}
 use Rattle.samr_cluster.proofs.DecideLaws.{directed_nodes}
 
@@ -27,6 +28,9 @@ module _ (w : Clustering) (is : IsClustering w) (d r : ℕ) (less : d < w.ranks)
 
   abbrev roots : List Corners
   roots = directed w.ranks d w.roots
+
+  abbrev asked_parts : ℕ → List Directed
+  asked_parts q = flat_map (λ b. asked_of (near_to w b) (parts (decided w.tags w.rule b))) (open_of (at_round q) d)
 
   told_next : (q : ℕ) → told_of (at_round (suc q)) d r ≡ below w.tags w.rule (near_of (at_round q) d r)
   unfolding told
@@ -45,8 +49,9 @@ module _ (w : Clustering) (is : IsClustering w) (d r : ℕ) (less : d < w.ranks)
       let s = Member-from_below w.tags w.rule b (near_of (at_round q) d r) (subst (λ l. Member b l) (told_next q) m) in
       let f = Member-from_filter (λ b. near w r b) s.0 (open_of (at_round q) d) s.1 in (
         node_asked (near_to w s.0) b,
-        Member-flat_map (λ b. asked_of (near_to w b) (parts (decided w.tags w.rule b))) (node_asked (near_to w s.0) b) s.0 (open_of (at_round q) d) f.0
-            (Member-map (node_asked (near_to w s.0)) b (parts (decided w.tags w.rule s.0)) s.2),
+        Member-sorted directed_less (node_asked (near_to w s.0) b) (asked_parts q)
+            (Member-flat_map (λ b. asked_of (near_to w b) (parts (decided w.tags w.rule b))) (node_asked (near_to w s.0) b) s.0 (open_of (at_round q) d) f.0
+            (Member-map (node_asked (near_to w s.0)) b (parts (decided w.tags w.rule s.0)) s.2)),
         refl,
         near_member w is s.0 r rank f.1,
       )
@@ -57,7 +62,7 @@ module _ (w : Clustering) (is : IsClustering w) (d r : ℕ) (less : d < w.ranks)
       let s = Member-from_map (node_asked (range_with_len 0 w.ranks)) p roots m in
       subst (λ l. Member p.node l) (sym first_told) (subst (λ (v : Directed). Member v.node roots) (sym s.2) s.1)
   from_asked (suc q) p m n =
-      let s = Member-from_flat_map (λ b. asked_of (near_to w b) (parts (decided w.tags w.rule b))) p (open_of (at_round q) d) m in
+      let s = Member-from_flat_map (λ b. asked_of (near_to w b) (parts (decided w.tags w.rule b))) p (open_of (at_round q) d) (Member-from_sorted directed_less p (asked_parts q) m) in
       let t = Member-from_map (node_asked (near_to w s.0)) p (parts (decided w.tags w.rule s.0)) s.2 in
       let near_too = (near_below w is s.0 r (subst (λ (v : Directed). Member r v.asked) t.2 n)).1 in
       let kept = Member-filter (λ b. near w r b) s.0 (open_of (at_round q) d) s.1 near_too in

@@ -19,6 +19,7 @@ use Rattle.samr_sign.specs.Decide.{decide_of}
 use Rattle.samr_sign.specs.Counts.{sign}
 use Rattle.samr_rounds.specs.declared.owner.RankTags.{RankTags}
 use Rattle.samr_rounds.specs.Clusters.{accepted, parts, decided}
+use Rattle.samr_rounds.specs.Sorted.{sorted, corner_less}
 use Rattle.samr_rounds.specs.Rounds.{below, told, directed}
 use Rattle.samr_rounds.specs.Owners.{counts_of, owner_in}
 use Rattle.samr_rounds.specs.Laws.{IsNode, AreNodes}
@@ -32,11 +33,12 @@ use Rattle.samr_cluster.specs.declared.accepted.Accepted.{Accepted}
 use Rattle.samr_cluster.specs.declared.nodes.Told.{Told}
 use Rattle.samr_cluster.specs.declared.verdict.Verdict.{Verdict}
 use Rattle.samr_cluster.specs.declared.verdict.Verdict.TheVariants.{Taken}
+use Rattle.samr_cluster.specs.declared.verdict.Ruling.{Ruling}
 use Rattle.samr_cluster.specs.declared.verdict.Judged.{Judged}
 use Rattle.samr_cluster.specs.Cluster.{Clustering, IsClustering, near, near_to, accepted_in, owner}
 use Rattle.samr_cluster.specs.Accepting.{accepted_as}
-use Rattle.samr_cluster.specs.Rounds.{Round, open_of, told_of, near_of, directors, from_director, near_state, asked_of, directed_after, counted_as, next}
-use Rattle.samr_cluster.specs.DecideRow.{verdict_of, parts_in, taken_in, verdict, judged_as, judge, told_to, verdicts_for}
+use Rattle.samr_cluster.specs.Rounds.{Round, open_of, told_of, near_of, directors, from_director, near_state, asked_of, directed_less, directed_after, counted_as, next}
+use Rattle.samr_cluster.specs.DecideRow.{verdict_of, parts_in, parts_on, taken_in, verdict, ruling, judged_as, judge, told_to, rulings_for}
 use Rattle.samr_cluster.specs.DecideParts.{other_directors, others_near}
 use Rattle.samr_cluster.proofs.ListLaws.{among, is_among}
 use Rattle.samr_cluster.proofs.NodeLaws.{near_below, near_member}
@@ -113,8 +115,8 @@ module _ (x : Round) (is : IsClustering x.whole) where
       let d = decide_of (sign w.tags b) w.rule in
       let same = verdict_same d (λ c. owner_in (counts_of w.tags w.level b (near_to w b))) (owner w) (near_to w b)
       (λ c m. (near_owner (finer w.frame w.ratio) w.width is.area w.ranks w.level w.tags w.rule b c is.width node is.level is.tags m).0) in
-      ap (λ (n : List ℕ). let j : Judged = record { verdict = verdict_of d (λ c. owner_in (counts_of w.tags w.level b (near_to w b))) n; near = n } in j) ranks
-      ∙ ap (λ (v : Verdict). let j : Judged = record { verdict = v; near = near_to w b } in j) same
+      ap (λ (n : List ℕ). let j : Judged = record { node = b; verdict = verdict_of d (λ c. owner_in (counts_of w.tags w.level b (near_to w b))) n; near = n } in j) ranks
+      ∙ ap (λ (v : Verdict). let j : Judged = record { node = b; verdict = v; near = near_to w b } in j) same
 
   pub all_judged : (r : ℕ) → r < w.ranks → map (λ c. judge w.rule c) (map (λ b. counted_as w b) (open_of x r)) ≡ map (λ b. judged_as w b) (open_of x r)
   all_judged r less =
@@ -122,37 +124,43 @@ module _ (x : Round) (is : IsClustering x.whole) where
       ∙ map_agree (λ b. judge w.rule (counted_as w b)) (λ b. judged_as w b) (open_of x r) (λ b m. judged_same b (open_nodes r less b m))
 
   -- the verdicts for a rank
-  pub verdicts_are : (d r : ℕ) → r < w.ranks → verdicts_for r (map (λ b. judged_as w b) (open_of x d)) ≡ map (λ b. verdict w b) (near_of x d r)
-  unfolding verdicts_for
-  verdicts_are d r less =
+  pub rulings_are : (d r : ℕ) → r < w.ranks → rulings_for r (map (λ b. judged_as w b) (open_of x d)) ≡ map (λ b. ruling w b) (near_of x d r)
+  unfolding rulings_for
+  rulings_are d r less =
       flat_of_map (λ j. told_to r j) (λ b. judged_as w b) (open_of x d)
-      ∙ picked_map (λ b. list_any (λ k. nat_eq k r) (near_to w b)) (λ b. near w r b) (λ b. verdict w b) (open_of x d) (λ b. near_test b r less)
+      ∙ picked_map (λ b. list_any (λ k. nat_eq k r) (near_to w b)) (λ b. near w r b) (λ b. ruling w b) (open_of x d) (λ b. near_test b r less)
 
   -- what follows from the verdicts of a director
-  pub told_by : (d r : ℕ) → d < w.ranks → flat_map (λ v. from_director d (parts_in v)) (map (λ b. verdict w b) (near_of x d r)) ≡ from_director d (told_of (next x) d r)
-  unfolding verdict below told
-  told_by d r less =
-      let roots = directed w.ranks d w.roots in
-      let part : Corners → List Corners = λ b. parts (decided w.tags w.rule b) in
-      flat_of_map (λ v. from_director d (parts_in v)) (λ b. verdict w b) (near_of x d r)
-      ∙ flat_agree (λ b. from_director d (parts_in (verdict w b))) (λ b. from_director d (part b)) (near_of x d r)
-      (λ b m. ap (from_director d) (parts_verdict (decided w.tags w.rule b) (owner w) (near_to w b)))
-      ∙ sym (map_flat (λ b. let t : Told = record { director = d; node = b } in t) part (near_of x d r))
-      ∙ ap (λ (l : List Corners). from_director d (flat_map part l)) (sym (near_told (finer w.frame w.ratio) w.width (own_boxes r w.level) w.tags w.rule roots x.number (directed_nodes d less)))
+  parts_are : (nodes : List Corners) → parts_on (map (λ b. ruling w b) nodes) ≡ below w.tags w.rule nodes
+  unfolding verdict parts_on below
+  parts_are nodes =
+      ap (sorted corner_less)
+      (flat_of_map (λ (v : Ruling). parts_in v.verdict) (λ b. ruling w b) nodes
+      ∙ flat_agree (λ b. parts_in (verdict w b)) (λ b. parts (decided w.tags w.rule b)) nodes
+      (λ b m. parts_verdict (decided w.tags w.rule b) (owner w) (near_to w b)))
 
-  pub taken_by : (nodes : List Corners) → flat_map (λ v. taken_in v) (map (λ b. verdict w b) nodes) ≡ flat_map (λ b. map (λ c. accepted_as w b c) (accepted_in w b)) nodes
+  pub told_by : (d r : ℕ) → d < w.ranks → from_director d (parts_on (map (λ b. ruling w b) (near_of x d r))) ≡ from_director d (told_of (next x) d r)
+  unfolding told
+  told_by d r less =
+      ap (from_director d)
+      (parts_are (near_of x d r)
+      ∙ ap (below w.tags w.rule)
+      (sym (near_told (finer w.frame w.ratio) w.width (own_boxes r w.level) w.tags w.rule (directed w.ranks d w.roots) x.number (directed_nodes d less))))
+
+  pub taken_by : (nodes : List Corners) → flat_map (λ (v : Ruling). taken_in v.verdict) (map (λ b. ruling w b) nodes) ≡ flat_map (λ b. map (λ c. accepted_as w b c) (accepted_in w b)) nodes
   unfolding verdict
   taken_by nodes =
-      flat_of_map (λ v. taken_in v) (λ b. verdict w b) nodes
+      flat_of_map (λ (v : Ruling). taken_in v.verdict) (λ b. ruling w b) nodes
       ∙ flat_agree (λ b. taken_in (verdict w b)) (λ b. map (λ c. accepted_as w b c) (accepted_in w b)) nodes
       (λ b m. taken_verdict (decided w.tags w.rule b) (owner w) (near_to w b))
 
-  pub directed_by : (r : ℕ) → flat_map (λ j. asked_of j.near (parts_in j.verdict)) (map (λ b. judged_as w b) (open_of x r)) ≡ directed_after w r (suc x.number)
+  pub directed_by : (r : ℕ) → sorted directed_less (flat_map (λ j. asked_of j.near (parts_in j.verdict)) (map (λ b. judged_as w b) (open_of x r))) ≡ directed_after w r (suc x.number)
   unfolding verdict directed_after
   directed_by r =
-      flat_of_map (λ j. asked_of j.near (parts_in j.verdict)) (λ b. judged_as w b) (open_of x r)
+      ap (sorted directed_less)
+      (flat_of_map (λ j. asked_of j.near (parts_in j.verdict)) (λ b. judged_as w b) (open_of x r)
       ∙ flat_agree (λ b. asked_of (near_to w b) (parts_in (verdict w b))) (λ b. asked_of (near_to w b) (parts (decided w.tags w.rule b))) (open_of x r)
-      (λ b m. ap (asked_of (near_to w b)) (parts_verdict (decided w.tags w.rule b) (owner w) (near_to w b)))
+      (λ b m. ap (asked_of (near_to w b)) (parts_verdict (decided w.tags w.rule b) (owner w) (near_to w b))))
 
   -- nothing is told where no node is near
   pub none_near : (r : ℕ) (nodes : List Corners) → list_any (λ b. near w r b) nodes ≡ false → filter (λ b. near w r b) nodes ≡ []

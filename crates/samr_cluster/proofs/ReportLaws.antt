@@ -34,12 +34,14 @@ use Rattle.samr_rounds.specs.Ranks.{sum_of_signs}
 use Rattle.samr_rounds.specs.Laws.{IsNode}
 use Rattle.samr_rounds.proofs.Lists.{any_map, any_member, member_any, sum_map, sum_filter}
 use Rattle.samr_rounds.proofs.Adding.{near_signs, own_counts}
+use Rattle.samr_rounds.specs.Sorted.{sorted, corner_less}
+use Rattle.samr_rounds.proofs.Sorting.{Member-from_sorted, map-sorted}
 use Rattle.samr_rounds.proofs.NearLaws.{near_told, far_none}
 use Rattle.samr_peers.proofs.PeerRows.{not_same, is_not_same, Member-from_range}
 use Rattle.samr_cluster.specs.declared.nodes.Told.{Told}
 use Rattle.samr_cluster.specs.declared.nodes.Directed.{Directed}
 use Rattle.samr_cluster.specs.Cluster.{Clustering, IsClustering, near, near_to}
-use Rattle.samr_cluster.specs.Rounds.{Round, open_of, told_of, near_of, directors, from_director, told_state, near_state, asked_of, directed_after}
+use Rattle.samr_cluster.specs.Rounds.{Round, open_of, told_of, near_of, directors, from_director, told_state, near_state, asked_of, directed_less, directed_after}
 use Rattle.samr_cluster.specs.DecideParts.{other_directors}
 use Rattle.samr_cluster.specs.ReportRow.{was_told, signs_of, sign_for, signs_for, signed, tags_from}
 use Rattle.samr_cluster.specs.ReportParts.{others_asked}
@@ -193,7 +195,8 @@ module _ (x : Round) (is : IsClustering x.whole) where
       let g = (Member-from_range w.ranks 0 k (subst (λ (v : Directed). Member k v.asked) s.2 n)).1 in
       omega (arith, g)
   asked_below r k (suc q) p m n =
-      let s = Member-from_flat_map (λ b. asked_of (near_to w b) (parts (decided w.tags w.rule b))) p (opened w.tags w.rule (directed w.ranks r w.roots) q) m in
+      let s = Member-from_flat_map (λ b. asked_of (near_to w b) (parts (decided w.tags w.rule b))) p (opened w.tags w.rule (directed w.ranks r w.roots) q)
+      (Member-from_sorted directed_less p (flat_map (λ b. asked_of (near_to w b) (parts (decided w.tags w.rule b))) (opened w.tags w.rule (directed w.ranks r w.roots) q)) m) in
       let t = Member-from_map (asked_as (near_to w s.0)) p (parts (decided w.tags w.rule s.0)) s.2 in
       (near_below w is s.0 k (subst (λ (v : Directed). Member k v.asked) t.2 n)).0
 
@@ -229,9 +232,11 @@ module _ (x : Round) (is : IsClustering x.whole) where
   unfolding directed_after opened below
   nodes_after r zero = nodes_asked (range_with_len 0 w.ranks) (directed w.ranks r w.roots)
   nodes_after r (suc q) =
-      map_flat (λ (p : Directed). p.node) (λ b. asked_of (near_to w b) (parts (decided w.tags w.rule b))) (opened w.tags w.rule (directed w.ranks r w.roots) q)
+      map-sorted (λ (p : Directed). p.node) corner_less (flat_map (λ b. asked_of (near_to w b) (parts (decided w.tags w.rule b))) (opened w.tags w.rule (directed w.ranks r w.roots) q))
+      ∙ ap (sorted corner_less)
+      (map_flat (λ (p : Directed). p.node) (λ b. asked_of (near_to w b) (parts (decided w.tags w.rule b))) (opened w.tags w.rule (directed w.ranks r w.roots) q)
       ∙ flat_agree (λ b. map (λ (p : Directed). p.node) (asked_of (near_to w b) (parts (decided w.tags w.rule b)))) (λ b. parts (decided w.tags w.rule b)) (opened w.tags w.rule (directed w.ranks r w.roots) q)
-      (λ b m. nodes_asked (near_to w b) (parts (decided w.tags w.rule b)))
+      (λ b m. nodes_asked (near_to w b) (parts (decided w.tags w.rule b))))
 
   pub nodes_directed : (r : ℕ) → map (λ (p : Directed). p.node) (directed_after w r x.number) ≡ open_of x r
   nodes_directed r = nodes_after r x.number

@@ -1,9 +1,10 @@
 -- What the ranks hold in a round of a clustering: one director's roots after another, the rank's own first.
-use Rattle.std.specs.Prelude.{ℕ, zero, suc, not, nat_eq, List, ◌∷◌, map, filter}
+use Rattle.std.specs.Prelude.{ℕ, Bool, zero, suc, not, nat_eq, List, ◌∷◌, map, filter}
 use Rattle.std.specs.List.{flat_map, range_with_len}
 use Rattle.samr_box.specs.Corners.{Corners}
 use Rattle.samr_sign.specs.Counts.{sign}
 use Rattle.samr_rounds.specs.Clusters.{parts, decided}
+use Rattle.samr_rounds.specs.Sorted.{sorted, corner_less}
 use Rattle.samr_rounds.specs.Rounds.{opened, told, directed}
 use Rattle.samr_rounds.specs.Owners.{counts_of}
 use Rattle.samr_cluster.specs.declared.accepted.Accepted.{Accepted}
@@ -46,11 +47,15 @@ near_state x r = flat_map (λ d. from_director d (near_of x d r)) (directors x.w
 abbrev pub asked_of : List ℕ → List Corners → List Directed
 asked_of ranks nodes = map (λ b. record { node = b; asked = ranks }) nodes
 
--- the nodes that a rank directs, with the ranks that were told them: all are told the roots, and those near a node its parts
+abbrev pub directed_less : Directed → Directed → Bool
+directed_less p q = corner_less p.node q.node
+
+-- the nodes that a rank directs, with the ranks that were told them: all are told the roots, and those near a node its parts,
+-- in corner order
 unfoldable pub directed_after : Clustering → ℕ → ℕ → List Directed
 directed_after w d zero = asked_of (range_with_len 0 w.ranks) (directed w.ranks d w.roots)
 directed_after w d (suc q) =
-    flat_map (λ b. asked_of (near_to w b) (parts (decided w.tags w.rule b))) (opened w.tags w.rule (directed w.ranks d w.roots) q)
+    sorted directed_less (flat_map (λ b. asked_of (near_to w b) (parts (decided w.tags w.rule b))) (opened w.tags w.rule (directed w.ranks d w.roots) q))
 
 -- a directed node with the counts of all tags in it, and with those of each near rank
 abbrev pub counted_as : Clustering → Corners → Counted

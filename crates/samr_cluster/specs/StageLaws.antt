@@ -9,7 +9,7 @@ use Rattle.samr_peers.specs.PeerLaws.{peer_between}
 use Rattle.samr_cluster.specs.Cluster.{Clustering, near}
 use Rattle.samr_cluster.specs.Rounds.{Round, open_of, near_of}
 use Rattle.samr_cluster.specs.SomeRows.{some_row}
-use Rattle.samr_cluster.specs.DecideRow.{verdict, decide_row}
+use Rattle.samr_cluster.specs.DecideRow.{ruling, decide_row}
 use Rattle.samr_cluster.specs.ReportRow.{was_told, signs_of, report_row}
 use Rattle.samr_cluster.specs.Accepting.{to_owners}
 use Rattle.samr_cluster.specs.EdgesRow.{with_boxes_of, edges_row}
@@ -36,7 +36,7 @@ some_between ranks some body from to h =
 pub decide_between : (x : Round) (from to : ℕ) → IsTrue (is_some (decide_row x from to)) → (from < x.whole.ranks) × (to < x.whole.ranks) × (from ≢ to)
 unfolding decide_row
 decide_between x from to h =
-    some_between x.whole.ranks (λ from to. list_any (λ b. near x.whole to b) (open_of x from)) (λ from to. map (λ b. verdict x.whole b) (near_of x from to)) from to h
+    some_between x.whole.ranks (λ from to. list_any (λ b. near x.whole to b) (open_of x from)) (λ from to. map (λ b. ruling x.whole b) (near_of x from to)) from to h
 
 pub report_between : (x : Round) (from to : ℕ) → IsTrue (is_some (report_row x from to)) → (from < x.whole.ranks) × (to < x.whole.ranks) × (from ≢ to)
 unfolding report_row

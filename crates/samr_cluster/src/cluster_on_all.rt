@@ -16,6 +16,7 @@ ghost use Rattle.samr_cluster.specs.EdgesRow.{cluster_pair};
 ghost use Rattle.samr_cluster.specs.ClusterOnAll.{first_told, first_nodes, nodes_after, in_rounds, HaveAllTags};
 
 use crate::accepted::Accepted;
+use crate::next_round::push_nodes;
 use crate::nodes::{Decided, Directed, OpenNodes, Told};
 use crate::on_all::{as_rank, decide_all, edges_all, report_all};
 use crate::signing::boxes_of;
@@ -24,19 +25,6 @@ use samr_level::Pair;
 use samr_rounds::directed;
 use samr_sign::{CutRule, TagField};
 use std::alloc::{AllocError as NoMemory, Global};
-
-/// Adds nodes with their director.
-fn push_told(director: u16, nodes: &[IBox], told: &mut Vec<Told>) -> Result<(), NoMemory>
-    ensures { OnOk result (told.new.items ≡ told.old.items ++ from_director director nodes.now) }
-{
-    for node in nodes {
-        told.push(Told {
-            director,
-            node: *node,
-        })?;
-    }
-    Ok(())
-}
 
 /// Adds the roots of a director, but for one.
 fn push_roots(
@@ -52,19 +40,28 @@ fn push_roots(
 {
     if director != rank {
         let own = directed(alloc, roots, director, ranks)?;
-        push_told(director, own.as_slice(), told)?;
+        push_nodes(director, own.as_slice(), told)?;
     }
     Ok(())
 }
 
 /// The roots as a rank is told them: its own first, then those of each other director.
-fn first_told(alloc: Global, rank: u16, ranks: u16, roots: &[IBox]) -> Result<Vec<Told>, NoMemory>
+///
+/// # Errors
+///
+/// Where memory is short.
+pub fn first_told(
+    alloc: Global,
+    rank: u16,
+    ranks: u16,
+    roots: &[IBox],
+) -> Result<Vec<Told>, NoMemory>
     requires { 0 < ranks }
     ensures { IfOk result (λ v. v.items ≡ first_told ranks roots.now rank) }
 {
     let own = directed(alloc, roots, rank, ranks)?;
     let mut told = Vec::new(alloc);
-    push_told(rank, own.as_slice(), &mut told)?;
+    push_nodes(rank, own.as_slice(), &mut told)?;
     for director in 0..ranks {
         push_roots(alloc, rank, director, ranks, roots, &mut told)?;
     }
@@ -97,7 +94,11 @@ fn asked_all(alloc: Global, ranks: u16, nodes: &[IBox]) -> Result<Vec<Directed>,
 }
 
 /// The roots that a rank directs, which all ranks are told.
-fn first_directed(
+///
+/// # Errors
+///
+/// Where memory is short.
+pub fn first_directed(
     alloc: Global,
     rank: u16,
     ranks: u16,
@@ -112,6 +113,10 @@ fn first_directed(
 }
 
 /// What all ranks have before the first round.
+///
+/// # Errors
+///
+/// Where memory is short.
 pub fn first_nodes(alloc: Global, ranks: u16, roots: &[IBox]) -> Result<Vec<OpenNodes>, NoMemory>
     requires { 0 < ranks }
     ensures { IfOk result (λ v. v.items ≡ map (λ r. first_nodes ranks roots.now r) (range_with_len 0 ranks)) }

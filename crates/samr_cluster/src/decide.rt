@@ -11,7 +11,7 @@ ghost use Rattle.samr_cluster.specs.StageLaws.{decide_between};
 use crate::addressees::{other_directors, others_near};
 use crate::next_round::{accepted_next, directed_next, told_next};
 use crate::nodes::{Decided, Reported};
-use crate::verdict::{Judged, Verdict, judge_all, verdicts_for};
+use crate::verdict::{Judged, Ruling, judge_all, rulings_for};
 use samr_box::{Domain, Listed};
 use samr_sign::CutRule;
 use samr_stage::{Held, Stage};
@@ -57,7 +57,7 @@ impl Decide {
 }
 
 impl Stage for Decide {
-    type Body = Listed<Verdict>;
+    type Body = Listed<Ruling>;
 
     type Out = Decided;
 
@@ -75,16 +75,16 @@ impl Stage for Decide {
 
     ghost waits = { λ s x rank. HasJudged s.rank s.judged.items s.addressees.items s.senders.items x rank };
 
-    fn letters(&mut self, alloc: Global) -> Result<Vec<(u16, Listed<Verdict>)>, NoMemory> {
+    fn letters(&mut self, alloc: Global) -> Result<Vec<(u16, Listed<Ruling>)>, NoMemory> {
         let mut letters = Vec::new(alloc);
         'each: for to in &self.addressees {
-            let body = verdicts_for(alloc, *to, self.judged.as_slice())?;
+            let body = rulings_for(alloc, *to, self.judged.as_slice())?;
             letters.push((*to, body))?;
         }
         Ok(letters)
     }
 
-    fn weight(&self, _body: &Listed<Verdict>) -> u64 {
+    fn weight(&self, _body: &Listed<Ruling>) -> u64 {
         1
     }
 
@@ -92,14 +92,14 @@ impl Stage for Decide {
         self.senders.len() as u64
     }
 
-    fn finish(self, alloc: Global, held: Vec<Held<Listed<Verdict>>>) -> Result<Decided, NoMemory>
+    fn finish(self, alloc: Global, held: Vec<Held<Listed<Ruling>>>) -> Result<Decided, NoMemory>
         requires { (x : Round) × (rank : ℕ) × HasJudged self.rank self.judged.items self.addressees.items self.senders.items x rank
             × (held.items ≡ heard (column (decide_row x) rank) x.whole.ranks) }
         ensures { IfOk result (λ out. (x : Round) (rank : ℕ)
             → HasJudged self.rank self.judged.items self.addressees.items self.senders.items x rank
             → held.items ≡ heard (column (decide_row x) rank) x.whole.ranks → out ≡ decided_state x rank) }
     {
-        let own = verdicts_for(alloc, self.rank, self.judged.as_slice())?;
+        let own = rulings_for(alloc, self.rank, self.judged.as_slice())?;
         let told = told_next(alloc, self.rank, own.as_slice(), held.as_slice())?;
         let directed = directed_next(alloc, self.judged.as_slice())?;
         let accepted = accepted_next(alloc, own.as_slice(), held.as_slice())?;

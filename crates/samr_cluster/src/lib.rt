@@ -21,11 +21,11 @@ mod signing;
 mod verdict;
 
 pub use accepted::Accepted;
-pub use cluster_on_all::cluster_all;
+pub use cluster_on_all::{cluster_all, first_directed, first_nodes, first_told};
 pub use decide::Decide;
 pub use edges::Edges;
 pub use laws::{rounds_tell_the_accepted, the_asked_were_told};
 pub use nodes::{Counted, Decided, Directed, OpenNodes, Reported, Told};
 pub use on_all::{decide_all, edges_all, report_all};
 pub use report::Report;
-pub use verdict::Verdict;
+pub use verdict::{Ruling, Verdict};

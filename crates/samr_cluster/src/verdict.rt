@@ -2,7 +2,7 @@
 
 ghost use Rattle.std.specs.Prelude.{◌≡◌, ◌++◌, IfOk, OnOk, map, nat_eq};
 ghost use Rattle.std.specs.List.{list_any};
-ghost use Rattle.samr_cluster.specs.DecideRow.{judge, told_to, verdicts_for};
+ghost use Rattle.samr_cluster.specs.DecideRow.{judge, told_to, rulings_for};
 
 use crate::accepted::Accepted;
 use crate::nodes::Counted;
@@ -22,9 +22,17 @@ pub enum Verdict {
     Parted(IBox, IBox),
 }
 
+/// A verdict with the node that it is on.
+#[derive(Debug, Drop)]
+pub struct Ruling {
+    pub node: IBox,
+    pub verdict: Verdict,
+}
+
 /// A verdict on a node, and the ranks that are near the node, ascending.
 #[derive(Debug, Drop)]
 pub struct Judged {
+    pub node: IBox,
     pub verdict: Verdict,
     pub near: Listed<u16>,
 }
@@ -54,7 +62,11 @@ fn judge(alloc: Global, c: &Counted, rule: &CutRule) -> Result<Judged, NoMemory>
         }),
         Decision::Split(first, second) => Verdict::Parted(first, second),
     };
-    Ok(Judged { verdict, near })
+    Ok(Judged {
+        node: c.node,
+        verdict,
+        near,
+    })
 }
 
 /// The verdicts on counted nodes.
@@ -91,32 +103,26 @@ fn is_near(j: &Judged, rank: u16) -> bool
 }
 
 /// Adds the verdict on a node, where a rank is near it.
-fn push_for(
-    alloc: Global,
-    rank: u16,
-    j: &Judged,
-    verdicts: &mut Vec<Verdict>,
-) -> Result<(), NoMemory>
-    ensures { OnOk result (verdicts.new.items ≡ verdicts.old.items ++ told_to rank j.now) }
+fn push_for(alloc: Global, rank: u16, j: &Judged, rulings: &mut Vec<Ruling>) -> Result<(), NoMemory>
+    ensures { OnOk result (rulings.new.items ≡ rulings.old.items ++ told_to rank j.now) }
 {
     if is_near(j, rank) {
-        verdicts.push(copied(alloc, &j.verdict)?)?;
+        rulings.push(Ruling {
+            node: j.node,
+            verdict: copied(alloc, &j.verdict)?,
+        })?;
     }
     Ok(())
 }
 
 /// The verdicts on the nodes that a rank is near.
-#[tactic(auto, unfolding(crate::specs::DecideRow::verdicts_for))]
-pub fn verdicts_for(
-    alloc: Global,
-    rank: u16,
-    judged: &[Judged],
-) -> Result<Listed<Verdict>, NoMemory>
-    ensures { IfOk result (λ l. l ≡ verdicts_for rank judged.now) }
+#[tactic(auto, unfolding(crate::specs::DecideRow::rulings_for))]
+pub fn rulings_for(alloc: Global, rank: u16, judged: &[Judged]) -> Result<Listed<Ruling>, NoMemory>
+    ensures { IfOk result (λ l. l ≡ rulings_for rank judged.now) }
 {
-    let mut verdicts = Vec::new(alloc);
+    let mut rulings = Vec::new(alloc);
     for j in judged {
-        push_for(alloc, rank, j, &mut verdicts)?;
+        push_for(alloc, rank, j, &mut rulings)?;
     }
-    Ok(Listed::from_vec(verdicts))
+    Ok(Listed::from_vec(rulings))
 }

@@ -4,3 +4,4 @@ pub mod Slices
 pub mod RowCopies
 pub mod CellWrites
 pub mod Patches
+pub mod ParcelOrderLaws

@@ -6,6 +6,7 @@
 #![tactic(auto)]
 
 mod laws;
+mod order;
 mod parcel;
 mod patch;
 mod places;
@@ -13,6 +14,7 @@ mod rows;
 mod writes;
 
 pub use laws::{copies_region, has_its_values, is_its_values, keeps_others};
+pub use order::in_parcel_order;
 pub use parcel::Parcel;
 pub use patch::Patch;
 pub use places::{cell_at, place};

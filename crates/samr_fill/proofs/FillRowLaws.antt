@@ -27,8 +27,9 @@ use Rattle.samr_sched.specs.declared.plan.FieldPlan.{FieldPlan}
 use Rattle.samr_sched.specs.Ask.{Scheduling, coarse_frame, downs_of}
 use Rattle.samr_sched.specs.Plans.{request_cmp, copies, rest, request, asked_along, asked, field_plan, box_plan, box_plans, all_asked, requests}
 use Rattle.samr_data.specs.declared.parcel.Parcel.{Parcel}
+use Rattle.samr_data.proofs.ParcelOrderLaws.{parcel_total, same_from_parcel_cmp}
 use Rattle.samr_fill.specs.Fill.{Filling}
-use Rattle.samr_fill.specs.FillRow.{copied_along, answered, parcels}
+use Rattle.samr_fill.specs.FillRow.{copied_along, answered, packed_for, parcels}
 
 -- requests are in a total order
 pub request_total : IsTotalOrder request_cmp
@@ -164,7 +165,7 @@ module _ (w : Filling) (from to : ℕ) where
   from_parcels p m =
       let all = flat_map of_box (own from w.schedule.level) in
       let answers = map (λ q. answered w q) (requests w.schedule to from) in
-      elim (Member-from_append p all answers m) [
+      elim (Member-from_append p all answers (Member-from_in_order parcel_total p (packed_for w from to) m)) [
         | inl here ↦
             let b = Member-from_flat_map of_box p (own from w.schedule.level) here in
             let f = Member-from_flat_map (by_field b.0) p (enumerate_from 0 w.schedule.ghosts) b.2 in
@@ -193,12 +194,14 @@ module _ (w : Filling) (from to : ℕ) where
       let answers = map (λ q. answered w q) (requests w.schedule to from) in
       let along = Member-filter leads edge (copies w.schedule field.1 base) me (eq-eqb edge.head.owner to head) in
       let one = Member-filter_map (λ e. copied_along w field.0 field.1 e) p edge (filter leads (copies w.schedule field.1 base)) along is in
-      Member-append_left p all answers
-      (Member-flat_map of_box p base (own from w.schedule.level) mb (Member-flat_map (by_field base) p field (enumerate_from 0 w.schedule.ghosts) mf one))
+      Member-in_order parcel_total same_from_parcel_cmp p (packed_for w from to)
+      (Member-append_left p all answers
+      (Member-flat_map of_box p base (own from w.schedule.level) mb (Member-flat_map (by_field base) p field (enumerate_from 0 w.schedule.ghosts) mf one)))
 
   pub in_answers : (q : Request) → Member q (requests w.schedule to from) → Member (answered w q) (parcels w from to)
   unfolding parcels
   in_answers q m =
       let all = flat_map of_box (own from w.schedule.level) in
       let answers = map (λ q. answered w q) (requests w.schedule to from) in
-      Member-append_right (answered w q) all answers (Member-map (λ q. answered w q) q (requests w.schedule to from) m)
+      Member-in_order parcel_total same_from_parcel_cmp (answered w q) (packed_for w from to)
+      (Member-append_right (answered w q) all answers (Member-map (λ q. answered w q) q (requests w.schedule to from) m))

@@ -33,9 +33,11 @@ use Rattle.samr_sched.specs.declared.plan.Plan.{Plan}
 use Rattle.samr_sched.specs.Ask.{Scheduling, IsScheduling, frame_of, coarse_frame, selves_of, downs_of, selves, ups, downs}
 use Rattle.samr_sched.specs.Plans.{request_cmp, copies, field_plan, box_plan, box_plans, all_asked, requests, others, plan_of}
 use Rattle.samr_data.specs.declared.parcel.Parcel.{Parcel}
+use Rattle.samr_data.specs.ParcelOrder.{parcel_cmp}
+use Rattle.samr_data.proofs.ParcelOrderLaws.{parcel_total, same_from_parcel_cmp}
 use Rattle.samr_fill.specs.Fill.{Filling, IsFilling}
-use Rattle.samr_fill.specs.FillParts.{HasValues, HasPatches}
-use Rattle.samr_fill.specs.FillRow.{copied_along, answered, parcels, sends, hears, fill_row}
+use Rattle.samr_fill.specs.FillParts.{HasValues, HasFields, HasPatches}
+use Rattle.samr_fill.specs.FillRow.{copied_along, answered, packed_for, parcels, sends, hears, fill_row}
 use Rattle.samr_fill.specs.Sending.{for_some, all_copies, answer_from, parcels_from, asked_by, asked_of_itself, united, letters_from}
 use Rattle.samr_fill.specs.Staging.{IsReady, HasLetters}
 use Rattle.samr_fill.specs.Orders.{AreInOrder}
@@ -175,9 +177,9 @@ module _ (w : Filling) (is : IsFilling w) (r : ℕ) where
       (fields : length patches ≡ length w.rules)
       (widths : (f place : ℕ) (field : List Grid) (p : Grid) (g : IVec) → slice_get patches f ≡ Some field → slice_get field place ≡ Some p
       → slice_get w.schedule.ghosts f ≡ Some g → p.width ≡ g)
-      (below : HasValues w.coarse_values (own r w.schedule.coarser) coarser) (coarse_fields : length coarser ≡ length w.rules) where
-    parcels_same : (to : ℕ) → parcels_from (plan_of w.schedule r) patches coarser to (requests w.schedule to r) ≡ parcels w r to
-    unfolding parcels_from parcels
+      (below : HasValues w.coarse_values (own r w.schedule.coarser) coarser) (coarse_fields : HasFields w coarser) where
+    parcels_same : (to : ℕ) → parcels_from (plan_of w.schedule r) patches coarser to (requests w.schedule to r) ≡ packed_for w r to
+    unfolding parcels_from
     parcels_same to =
         let s = w.schedule in
         let a = copies_same w is r to patches has fields widths (box_plans s r) refl in
@@ -185,19 +187,23 @@ module _ (w : Filling) (is : IsFilling w) (r : ℕ) where
         ap (λ (l : List Parcel). l ++ filter_map (λ q. answer_from (coarse_frame s) coarser q) (requests s to r)) a
         ∙ ap (λ (l : List Parcel). flat_map (λ b. flat_map (λ f. filter_map (λ e. copied_along w f.0 f.1 e) (filter (λ e. nat_eq e.head.owner to) (copies s f.1 b))) (enumerate_from 0 s.ghosts)) (own r s.level) ++ l) b
 
+    in_order_same : (to : ℕ) → in_order parcel_cmp (parcels_from (plan_of w.schedule r) patches coarser to (requests w.schedule to r)) ≡ parcels w r to
+    unfolding parcels
+    in_order_same to = ap (in_order parcel_cmp) (parcels_same to)
+
     pub letters_same : r < w.schedule.ranks → letters_from (plan_of w.schedule r) patches coarser (united (other_owners r (selves w.schedule r)) (map (λ a. a.rank) (others w.schedule r)))
         ≡ told (fill_row w r) w.schedule.ranks
     unfolding letters_from others
     letters_same within =
         let s = w.schedule in
         let plan = plan_of s r in
-        let make : ℕ → ℕ × List Parcel = λ to. (to, parcels_from plan patches coarser to (asked_by (others s r) to)) in
+        let make : ℕ → ℕ × List Parcel = λ to. (to, in_order parcel_cmp (parcels_from plan patches coarser to (asked_by (others s r) to))) in
         ap (λ (l : List ℕ). map make (united (other_owners r (selves s r)) l)) (map_ranks (other_owners r (ups s r)) (λ k. requests s k r))
         ∙ ap (map make) (united_is r (selves s r) (ups s r))
         ∙ map_same make (λ to. (to, parcels w r to)) (other_owners r (sends w r))
         (λ to m.
         let f = Member-from_others r (sends w r) to m in
-        ap (λ (l : List Request). (to, parcels_from plan patches coarser to l)) (asked_same to f.3) ∙ ap (λ (l : List Parcel). (to, l)) (parcels_same to))
+        ap (λ (l : List Request). (to, in_order parcel_cmp (parcels_from plan patches coarser to l))) (asked_same to f.3) ∙ ap (λ (l : List Parcel). (to, l)) (in_order_same to))
         ∙ sym (letters_are s.ranks (sends w) (hears w) (parcels w) (edges_turn w is) r within)
         ∙ ap (λ row. told (row r) s.ranks) (sym (row_is w))
 
@@ -223,9 +229,9 @@ module _ (w : Filling) (is : IsFilling w) (r : ℕ) where
               Member-flat_map by_box q b.0 plans b.1 (Member-flat_map by_field q f.0 b.0.fields f.1 (Member-filter test q f.0.asked f.2 t.1)),
         )
 
-    pub own_parcels : (p : Parcel) → Member p (parcels_from (plan_of w.schedule r) patches coarser r (asked_of_itself r (box_plans w.schedule r))) ↔ Member p (parcels w r r)
-    unfolding parcels_from parcels
-    own_parcels p =
+    own_packed : (p : Parcel) → Member p (parcels_from (plan_of w.schedule r) patches coarser r (asked_of_itself r (box_plans w.schedule r))) ↔ Member p (packed_for w r r)
+    unfolding parcels_from
+    own_packed p =
         let s = w.schedule in
         let asks = asked_of_itself r (box_plans s r) in
         let h : Request → Option Parcel = λ q. answer_from (coarse_frame s) coarser q in
@@ -250,6 +256,13 @@ module _ (w : Filling) (is : IsFilling w) (r : ℕ) where
                 (Member-filter_map h p q.0 asks ((own_asked q.0).1 q.1) (answer q.0 q.1 ∙ ap (λ v. Some v) (sym q.2)))
           ],
         )
+
+    pub own_parcels : (p : Parcel) → Member p (parcels_from (plan_of w.schedule r) patches coarser r (asked_of_itself r (box_plans w.schedule r))) ↔ Member p (parcels w r r)
+    unfolding parcels
+    own_parcels p = (
+      λ m. Member-in_order parcel_total same_from_parcel_cmp p (packed_for w r r) ((own_packed p).0 m),
+      λ m. (own_packed p).1 (Member-from_in_order parcel_total p (packed_for w r r) m),
+    )
 
   -- whoever has a parcel for the rank is heard
   hearing : (from : ℕ) (p : Parcel) → Member p (parcels w from r) → (e : Link) × Member e (hears w r) × (e.head.owner ≡ from)

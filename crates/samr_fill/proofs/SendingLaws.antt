@@ -37,7 +37,7 @@ use Rattle.samr_sched.specs.Ask.{Scheduling, IsGhost, domain_of, frame_of, coars
 use Rattle.samr_sched.specs.Plans.{copies, field_plan, box_plan, box_plans, requests, plan_of}
 use Rattle.samr_data.specs.declared.parcel.Parcel.{Parcel}
 use Rattle.samr_fill.specs.Fill.{Filling, IsFilling}
-use Rattle.samr_fill.specs.FillParts.{HasValues, HasPatches}
+use Rattle.samr_fill.specs.FillParts.{HasValues, HasFields, HasPatches}
 use Rattle.samr_fill.specs.FillRow.{copied_along, asked_region, answered, parcels}
 use Rattle.samr_fill.specs.Sending.{for_some, then_some, parcel_of, copied_from, place_copies, field_copies, box_copies, all_copies, answer_of, is_box, answer_in, answer_from, parcels_from}
 use Rattle.samr_fill.proofs.Numbered.{numbered_at, get_member, some_same, none_some, slice_get_map}
@@ -253,7 +253,7 @@ box_same b p e = ap (λ (c : Corners). is_eq (corner_cmp c b)) e ∙ (eq_by_cmp_
 
 -- the answers
 module _ (w : Filling) (is : IsFilling w) (from to : ℕ) (coarser : List (List Grid)) (has : HasValues w.coarse_values (own from w.schedule.coarser) coarser)
-    (fields : length coarser ≡ length w.rules) where
+    (fields : HasFields w coarser) where
   -- the region is not empty
   region_order : (q : Request) → IsRequested w.schedule to from q → AtMost (asked_region w.schedule q).lo (asked_region w.schedule q).hi
   region_order q k =
@@ -284,7 +284,8 @@ module _ (w : Filling) (is : IsFilling w) (from to : ℕ) (coarser : List (List 
       let place = member_place head (own from s.coarser) (in_own from s.coarser head head_of owner) in
       let item = numbered_at 0 s.ghosts k.field k.its_field in
       let number : q.field ≡ item.0 = ap (λ (v : Request). v.field) k.is ∙ item.1 ∙ zero_plus item.0 in
-      let field = field_there q.field item.0 number k.field.1 item.2 in
+      let count : length coarser ≡ length w.rules = elim fields [ inl none ↦ absurd (subst (λ (l : List Owned). Member head l) none.0 head_of) | inr full ↦ full ] in
+      let field = field_there count q.field item.0 number k.field.1 item.2 in
       let p = patch_there q.field field.0 place.0 head field.1 place.1 in
       let at_p = has.patch q.field place.0 field.0 p.0 field.1 p.1 in
       let same_head : at_p.0 ≡ head = some_same (sym at_p.1 ∙ place.1) in
@@ -308,11 +309,11 @@ module _ (w : Filling) (is : IsFilling w) (from to : ℕ) (coarser : List (List 
       zero_plus : (k : ℕ) → 0 + k ≡ k
       zero_plus k = omega arith
 
-      field_there : (n i : ℕ) → n ≡ i → (g : IVec) → slice_get w.schedule.ghosts i ≡ Some g → (field : List Grid) × (slice_get coarser n ≡ Some field)
-      field_there n i same g e =
+      field_there : length coarser ≡ length w.rules → (n i : ℕ) → n ≡ i → (g : IVec) → slice_get w.schedule.ghosts i ≡ Some g → (field : List Grid) × (slice_get coarser n ≡ Some field)
+      field_there count n i same g e =
           let below = there_below w.schedule.ghosts i g e in
           let a : length w.schedule.ghosts ≡ length w.rules = ap (λ (l : List IVec). length l) (sym is.widths) ∙ length_map (λ (r : Rules). r.width) w.rules in
-          (get_or coarser n [], slice_get-get_or coarser n [] (omega (arith, below, a, fields, same)))
+          (get_or coarser n [], slice_get-get_or coarser n [] (omega (arith, below, a, count, same)))
 
       patch_there : (n : ℕ) (field : List Grid) (place : ℕ) (b : Owned) → slice_get coarser n ≡ Some field → slice_get (own from w.schedule.coarser) place ≡ Some b
           → (p : Grid) × (slice_get field place ≡ Some p)

@@ -1,5 +1,5 @@
 -- What a rank has before a fill, and after it.
-use Rattle.std.specs.Prelude.{◌≡◌, ℕ, ◌<◌, List, map, length, Some, slice_get}
+use Rattle.std.specs.Prelude.{◌≡◌, ◌⊎◌, ℕ, ◌<◌, List, [], map, length, Some, slice_get}
 use Rattle.std.specs.List.{enumerate_from}
 use Rattle.samr_box.specs.declared.vector.IVec.{IVec}
 use Rattle.samr_box.specs.Corners.{Holds}
@@ -25,6 +25,10 @@ filled_field w r f = map (λ b. grid_of b.bx f.1.width (value_of w f)) (own r w.
 abbrev pub filled : Filling → ℕ → List (List Grid)
 filled w r = map (λ f. filled_field w r f) (enumerate_from 0 w.rules)
 
+-- patches of each field of the level below; where there is no such level, nothing will do
+abbrev pub HasFields : Filling → List (List Grid) → Type 0
+HasFields w coarser = ((w.schedule.coarser ≡ []) × (coarser ≡ [])) ⊎ (length coarser ≡ length w.rules)
+
 -- what a rank has at first
 pub record HasPatches (rank ranks : ℕ) (plan : Plan) (patches coarser : List (List Grid)) (rules : List Rules) (w : Filling) (r : ℕ) : Type 0 where
   pub is : IsFilling w
@@ -38,4 +42,4 @@ pub record HasPatches (rank ranks : ℕ) (plan : Plan) (patches coarser : List (
   pub widths : (f place : ℕ) (field : List Grid) (p : Grid) (g : IVec) → slice_get patches f ≡ Some field → slice_get field place ≡ Some p
       → slice_get w.schedule.ghosts f ≡ Some g → p.width ≡ g
   pub same_coarser : HasValues w.coarse_values (own r w.schedule.coarser) coarser
-  pub coarse_fields : length coarser ≡ length w.rules
+  pub coarse_fields : HasFields w coarser

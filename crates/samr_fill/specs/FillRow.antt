@@ -7,6 +7,7 @@ use Rattle.samr_box.specs.Vector.{times}
 use Rattle.samr_box.specs.Corners.{Corners, met, grown}
 use Rattle.samr_box.specs.Space.{image}
 use Rattle.samr_level.specs.Refs.{Owned, Link, turned}
+use Rattle.samr_level.specs.RefOrders.{in_order}
 use Rattle.samr_level.specs.Levels.{own}
 use Rattle.samr_data.specs.Places.{moved_back}
 use Rattle.samr_data.specs.Values.{listed}
@@ -15,6 +16,7 @@ use Rattle.samr_sched.specs.declared.plan.Request.{Request}
 use Rattle.samr_sched.specs.Ask.{Scheduling, frame_of, coarse_frame, selves, ups, downs}
 use Rattle.samr_sched.specs.Plans.{copies, requests}
 use Rattle.samr_data.specs.declared.parcel.Parcel.{Parcel}
+use Rattle.samr_data.specs.ParcelOrder.{parcel_cmp}
 use Rattle.samr_fill.specs.Fill.{Filling}
 
 -- along an edge to a box of the level: the values of those cells of the base that are ghost cells of the head
@@ -36,12 +38,16 @@ answered w q = record {
   values = listed (asked_region w.schedule q) (w.coarse_values q.field);
 }
 
--- what a rank sends to another: box by box, field by field and edge by edge what is copied, and then what was asked for
-unfoldable pub parcels : Filling → ℕ → ℕ → List Parcel
-parcels w from to =
+-- what a rank has for another: what is copied of its boxes, and what was asked for
+abbrev pub packed_for : Filling → ℕ → ℕ → List Parcel
+packed_for w from to =
     flat_map (λ b. flat_map (λ f. filter_map (λ e. copied_along w f.0 f.1 e) (filter (λ e. nat_eq e.head.owner to) (copies w.schedule f.1 b)))
     (enumerate_from 0 w.schedule.ghosts)) (own from w.schedule.level)
     ++ map (λ q. answered w q) (requests w.schedule to from)
+
+-- and sends to it: by edge, then what is of the level before what is of the one below, and then by field
+unfoldable pub parcels : Filling → ℕ → ℕ → List Parcel
+parcels w from to = in_order parcel_cmp (packed_for w from to)
 
 -- a rank sends to the other owners of heads of its overlaps with the level, and to those that asked it; and hears from the former, and from those it asked
 abbrev pub sends : Filling → ℕ → List Link

@@ -19,6 +19,7 @@ use Rattle.samr_sched.specs.declared.plan.BoxPlan.{BoxPlan}
 use Rattle.samr_sched.specs.declared.plan.Asked.{Asked}
 use Rattle.samr_sched.specs.declared.plan.Plan.{Plan}
 use Rattle.samr_data.specs.declared.parcel.Parcel.{Parcel}
+use Rattle.samr_data.specs.ParcelOrder.{parcel_cmp}
 
 -- what an option gives, and nothing where there is none
 abbrev pub for_some : {X Y : Type 0} → Option X → (X → List Y) → List Y
@@ -87,6 +88,6 @@ asked_of_itself rank boxes = flat_map (λ b. flat_map (λ f. filter (λ q. nat_e
 unfoldable pub united : List ℕ → List ℕ → List ℕ
 united a b = in_order nat_cmp (a ++ b)
 
--- the letters of these ranks
+-- the letters of these ranks, whose parcels are in order
 unfoldable pub letters_from : Plan → List (List Grid) → List (List Grid) → List ℕ → List (ℕ × List Parcel)
-letters_from plan own coarser ranks = map (λ to. (to, parcels_from plan own coarser to (asked_by plan.others to))) ranks
+letters_from plan own coarser ranks = map (λ to. (to, in_order parcel_cmp (parcels_from plan own coarser to (asked_by plan.others to)))) ranks

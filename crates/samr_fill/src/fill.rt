@@ -37,7 +37,7 @@ pub struct Fill<'a, R: Refines, B: Bounds, U: Updates> {
 
 impl<'a, R: Refines, B: Bounds, U: Updates> Fill<'a, R, B, U> {
     /// For a rank with this plan. `own` are its patches of the level, by field and then by place in its part of the
-    /// level, and `coarser` those of the level below.
+    /// level, and `coarser` those of the level below; where that has no boxes, `coarser` may have no fields.
     ///
     /// # Errors
     ///
@@ -103,7 +103,7 @@ fn all_parcels(own: Vec<Parcel>, held: Vec<Held<Listed<Parcel>>>) -> Result<Vec<
 impl<'a, R: Refines, B: Bounds, U: Updates> Stage for Fill<'a, R, B, U> {
     type Body = Listed<Parcel>;
 
-    type Out = Vec<Listed<Patch>>;
+    type Out = Listed<Listed<Patch>>;
 
     ghost Whole = { Filling };
 
@@ -111,7 +111,7 @@ impl<'a, R: Refines, B: Bounds, U: Updates> Stage for Fill<'a, R, B, U> {
 
     ghost says = { fill_row };
 
-    ghost gives = { λ w rank out. out.items ≡ filled w rank };
+    ghost gives = { λ w rank out. out ≡ filled w rank };
 
     ghost weight_of = { λ _. 1 };
 
@@ -135,12 +135,12 @@ impl<'a, R: Refines, B: Bounds, U: Updates> Stage for Fill<'a, R, B, U> {
         self,
         alloc: Global,
         held: Vec<Held<Listed<Parcel>>>,
-    ) -> Result<Vec<Listed<Patch>>, NoMemory>
+    ) -> Result<Listed<Listed<Patch>>, NoMemory>
         requires { (w : Filling) × (rank : ℕ) × IsReady self.plan self.own self.strategies.now self.parcels.items self.senders.items w rank
             × (held.items ≡ heard (column (fill_row w) rank) w.schedule.ranks) }
         ensures { IfOk result (λ out. (w : Filling) (rank : ℕ)
             → IsReady self.entry.plan self.entry.own self.entry.strategies.now self.entry.parcels.items self.entry.senders.items w rank
-            → held.items ≡ heard (column (fill_row w) rank) w.schedule.ranks → out.items ≡ filled w rank) }
+            → held.items ≡ heard (column (fill_row w) rank) w.schedule.ranks → out ≡ filled w rank) }
     {
         let parcels = all_parcels(self.parcels, held)?;
         let all = in_order(parcels);
@@ -151,7 +151,7 @@ impl<'a, R: Refines, B: Bounds, U: Updates> Stage for Fill<'a, R, B, U> {
             all.as_slice(),
             self.strategies,
         )?;
-        Ok(done)
+        Ok(Listed::from_vec(done))
     }
 
     ghost positive = { λ _ _ _ _ _. heavy };

@@ -60,11 +60,11 @@ pub fn fill_all<R: Refines, B: Bounds, U: Updates>(
     own: Vec<Listed<Listed<Patch>>>,
     coarser: &[Listed<Listed<Patch>>],
     strategies: &[Strategy<R, B, U>],
-) -> Result<Vec<Vec<Listed<Patch>>>, NoMemory>
+) -> Result<Vec<Listed<Listed<Patch>>>, NoMemory>
     requires few { length own.items < 2 ^ 16 }
     requires parts { (w : Filling) × HaveAllPatches plans.now own.items coarser.now strategies.now w }
     ensures { IfOk result (λ outs. (w : Filling) → HaveAllPatches plans.now own.items coarser.now strategies.now w
-        → (length outs.items ≡ w.schedule.ranks) × AreResults (λ w rank out. out.items ≡ filled w rank) w outs.items) }
+        → (length outs.items ≡ w.schedule.ranks) × AreResults (λ w rank out. out ≡ filled w rank) w outs.items) }
 {
     let stages = stages_of(alloc, plans, own, coarser, strategies)?;
     let outs = exchange(alloc, stages)?;

@@ -3,11 +3,13 @@
 ghost use Rattle.std.specs.Prelude.{◌≡◌, ◌++◌, ◌<◌, ◌^◌, nat_eq, length, map, filter, IfOk, OnOk};
 ghost use Rattle.std.specs.List.{flat_map, find};
 ghost use Rattle.std.specs.Option.{option_copied};
+ghost use Rattle.samr_level.specs.RefOrders.{in_order};
+ghost use Rattle.samr_data.specs.ParcelOrder.{parcel_cmp};
 ghost use Rattle.samr_fill.specs.Sending.{asked_by, asked_of_itself, united, parcels_from, letters_from, AllByCorner};
 
 use crate::sending::parcels_for;
 use samr_box::Listed;
-use samr_data::{Parcel, Patch};
+use samr_data::{Parcel, Patch, in_parcel_order};
 use samr_level::Edge;
 use samr_sched::{Asked, BoxPlan, FieldPlan, Plan, Request};
 use std::alloc::{AllocError as NoMemory, Global};
@@ -112,6 +114,21 @@ fn parcels_asked(
     }
 }
 
+/// The same in order.
+fn parcels_in_order(
+    alloc: Global,
+    plan: &Plan,
+    own: &[Listed<Patch>],
+    coarser: &[Listed<Patch>],
+    to: u16,
+) -> Result<Vec<Parcel>, NoMemory>
+    requires { length own.now < 2 ^ 8 }
+    ensures { IfOk result (λ v. AllByCorner coarser.now → v.items ≡ in_order parcel_cmp (parcels_from plan.now own.now coarser.now to (asked_by plan.now.others to))) }
+{
+    let parcels = parcels_asked(alloc, plan, own, coarser, to)?;
+    Ok(in_parcel_order(parcels))
+}
+
 /// The letters of these ranks. The patches of each field of `coarser` stand in corner order.
 #[tactic(auto, unfolding(crate::specs::Sending::letters_from))]
 pub fn letters_for(
@@ -126,7 +143,7 @@ pub fn letters_for(
 {
     let mut letters = Vec::new(alloc);
     for to in ranks {
-        let parcels = parcels_asked(alloc, plan, own, coarser, *to)?;
+        let parcels = parcels_in_order(alloc, plan, own, coarser, *to)?;
         letters.push((*to, Listed::from_vec(parcels)))?;
     }
     Ok(letters)

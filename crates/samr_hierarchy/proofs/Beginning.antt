@@ -1,5 +1,5 @@
 -- Each rank has what a stage begins with.
-use Rattle.std.proofs.Common.{◌≡◌, ℕ, zero, suc, ◌+◌, ◌<◌, refl, sym, ap, ◌∙◌, subst, arith, length, Some, None, slice_get}
+use Rattle.std.proofs.Common.{◌≡◌, ℕ, zero, suc, ◌+◌, ◌<◌, refl, sym, ap, ◌∙◌, subst, inr, arith, length, Some, None, slice_get}
 use Rattle.std.proofs.lemmas.Bool.Decides.{nat_tests}
 use Rattle.std.proofs.lemmas.List.{length-map}
 use Rattle.std.proofs.lemmas.List.FromFn.{length-enumerate_from}
@@ -152,7 +152,7 @@ fills_begin p ranks l rank h n mesh fits less within = record {
       let same : r.0 ≡ t.0 = some_same (sym r.1 ∙ t.1) in
       ap (λ (v : Grid). v.width) o.2 ∙ ap (λ (v : Field). v.ghosts) same ∙ sym (s.2 ∙ ap (λ (v : Rules). v.width) t.2);
   same_coarser = below_values p ranks l rank h n mesh fits less;
-  coarse_fields = count_below p ranks l rank h n mesh fits less ∙ count_rules p;
+  coarse_fields = inr (count_below p ranks l rank h n mesh fits less ∙ count_rules p);
 }
 
 knows_old : (p : Fields) (ranks l rank : ℕ) (h : Hierarchy) (news : List (List Owned)) → KnowsOld (old_pair p ranks h.levels news l rank) (renewing_at p ranks h news l) rank
@@ -175,7 +175,7 @@ renewals_begin p ranks l rank h news n old_mesh mesh remade fits less within = r
   has = record {
     same_rules = refl;
     same_values = has_values p ranks (suc l) rank h n;
-    fields = count_patches p h (suc l) rank ∙ count_rules p;
+    fields = inr (count_patches p h (suc l) rank ∙ count_rules p);
     coarse_values = has_values p ranks l rank h n;
     coarse_fields = count_patches p h l rank ∙ count_rules p;
   };
@@ -193,7 +193,7 @@ first_renewals_begin p ranks l rank levels n mesh less within = record {
   has = record {
     same_rules = refl;
     same_values = no_values p rank (λ f x. 0);
-    fields = length-map p.fields (λ (f : Field). let v : List Grid = [] in v) ∙ count_rules p;
+    fields = inr (length-map p.fields (λ (f : Field). let v : List Grid = [] in v) ∙ count_rules p);
     coarse_values = has_values p ranks l rank (first_hierarchy p ranks levels) n;
     coarse_fields = count_patches p (first_hierarchy p ranks levels) l rank ∙ count_rules p;
   };

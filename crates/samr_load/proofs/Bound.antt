@@ -1,21 +1,23 @@
 -- No rank ends with more than three grains above its quota.
-use Rattle.std.proofs.Common.{◌≡◌, ℕ, zero, suc, ◌+◌, ◌-◌, ◌*◌, ◌/◌, ◌<◌, ◌≤◌, sym, ap, subst, ◌∙◌, inl, inr, arith, nat_lt}
-use Rattle.std.proofs.lemmas.Bool.{cond-true, lt-ltb, cases_lt, cases_eq}
-use Rattle.std.specs.Prelude.{List, ◌++◌, Option, Some, None, ◌⊎◌}
+use Rattle.std.proofs.Common.{◌≡◌, ℕ, zero, suc, ◌+◌, ◌-◌, ◌*◌, ◌/◌, ◌<◌, ◌≤◌, refl, sym, ap, subst, ◌∙◌, inl, inr, arith, nat_lt, nat_eq}
+use Rattle.std.proofs.Math.Nat.{mul-le-mul_right}
+use Rattle.std.proofs.lemmas.Bool.{cond_both, cond-true, lt-ltb, eqb-true, cases_lt, cases_eq}
+use Rattle.samr_box.specs.Corners.{longest_of}
+use Rattle.std.specs.Prelude.{List, [], ◌∷◌, ◌++◌, Option, Some, None, ◌⊎◌}
 use Rattle.samr_bits.specs.Sums.{sum_below}
 use Rattle.samr_tree.specs.Tree.{first_child, second_child}
 use Rattle.samr_load.specs.Pieces.{Placed, piece_cmp, size_of, load}
-use Rattle.samr_load.specs.Taking.{parted}
+use Rattle.samr_load.specs.Taking.{Parted, parted}
 use Rattle.samr_load.specs.Ascent.{Balancing, Climb, up_of, up, stayed}
-use Rattle.samr_load.specs.Descent.{Fall, down, got, pieces_of}
+use Rattle.samr_load.specs.Descent.{Fall, given, down, got, pieces_of}
 use Rattle.samr_load.specs.Laws.{IsThin, grain}
 use Rattle.samr_load.proofs.Totals.{Each, total-append, total-sorted, each_append}
 use Rattle.samr_load.proofs.Flows.{flow}
-use Rattle.samr_load.proofs.Parting.{IsSolid, parted_total, parted_each}
-use Rattle.samr_load.proofs.Shapes.{thin_inherits, cells_shared}
+use Rattle.samr_load.proofs.Parting.{IsSolid, parted_total}
+use Rattle.samr_load.proofs.Shapes.{thin_inherits, cells_shared, some_across}
 use Rattle.samr_load.proofs.Takes.{parted_load, parted_short}
 use Rattle.samr_load.proofs.Ascents.{up_wanted, up_is, up_each, stayed_each}
-use Rattle.samr_load.proofs.Descents.{down_step, got_root, got_left, got_right, got_each}
+use Rattle.samr_load.proofs.Descents.{given_total, given_each, down_step, got_root, got_left, got_right, got_each}
 use Rattle.samr_load.proofs.Keeping.{only, up_flow, wanted_flow, need_is}
 
 sum_le_but_first : (f k : ℕ → ℕ) (n : ℕ) → ((r : ℕ) → r < n → f r ≤ k r) → 0 < n → sum_below f n + k 0 ≤ sum_below k n + f 0
@@ -24,22 +26,52 @@ sum_le_but_first f k (suc zero) h some = omega arith
 sum_le_but_first f k (suc (suc n)) h some =
     omega (arith, sum_le_but_first f k (suc n) (λ r p. h r (omega arith)) (omega arith), h (suc n) (omega arith))
 
+-- not more is given than is needed, and less than a grain fewer, unless all is given
+module _ (s : ℕ) (some : 0 < s) where
+  given_fits : (hand : List Placed) (need : ℕ) → load (given s hand need).taken ≤ need
+  given_fits hand need =
+      cond_both {A = Parted} (nat_eq need 0) (record { taken = []; rest = hand }) (parted s hand need) (λ (p : Parted). load p.taken ≤ need)
+      (λ _. omega arith)
+      (λ _. parted_load s some hand need)
+
+  -- a piece that is not empty has a grain
+  some_grain : (most : ℕ) (q : Placed) → IsThin most q → 0 < grain s most
+  some_grain most q thin =
+      let plane = some_across (longest_of q.bx) q.bx thin.not_empty in
+      let grows : 1 * most ≤ s * most = mul-le-mul_right most some in
+      omega (arith, plane, thin.thin, grows)
+
+  nothing_short : (most : ℕ) (hand : List Placed) (need : ℕ) → Each (IsThin most) hand → need ≡ 0 → (need < grain s most) ⊎ (hand ≡ [])
+  nothing_short most [] need thin none = inr refl
+  nothing_short most (q ∷ qs) need thin none = let more = some_grain most q (thin q (inl refl)) in inl (omega (arith, more, none))
+
+  given_short : (most : ℕ) (hand : List Placed) (need : ℕ) → Each (IsThin most) hand
+      → (need < load (given s hand need).taken + grain s most) ⊎ ((given s hand need).rest ≡ [])
+  given_short most hand need thin =
+      cond_both {A = Parted} (nat_eq need 0) (record { taken = []; rest = hand }) (parted s hand need)
+      (λ (p : Parted). (need < load p.taken + grain s most) ⊎ (p.rest ≡ []))
+      (λ yes. elim (nothing_short most hand need thin (eqb-true need 0 yes)) [
+        | inl short ↦ inl (omega (arith, short))
+        | inr all ↦ inr all
+      ])
+      (λ _. parted_short s some most hand need thin)
+
 -- what a rank is given is at most what it needs
 module _ (b : Balancing) (some : 0 < b.smallest) where
   got_fits_left : (rank : ℕ) → 2 * rank + 1 < b.ranks → load (got b (2 * rank + 1)) ≤ (up b (2 * rank + 1)).need
   got_fits_left rank inside =
       let hand = stayed b rank ++ got b rank in
       let is = ap load (got_left b rank ∙ ap (λ (f : Fall). f.first) (down_step b rank)) in
-      let fits = parted_load b.smallest some hand (up_of b (first_child b.ranks rank)).need in
+      let fits = given_fits b.smallest some hand (up_of b (first_child b.ranks rank)).need in
       let child = ap (λ (o : Option ℕ). (up_of b o).need) (cond-true (nat_lt (2 * rank + 1) b.ranks) (Some (2 * rank + 1)) None (lt-ltb (2 * rank + 1) b.ranks inside)) in
       omega (arith, is, fits, child)
 
   got_fits_right : (rank : ℕ) → 2 * rank + 2 < b.ranks → load (got b (2 * rank + 2)) ≤ (up b (2 * rank + 2)).need
   got_fits_right rank inside =
       let hand = stayed b rank ++ got b rank in
-      let rest = (parted b.smallest hand (up_of b (first_child b.ranks rank)).need).rest in
+      let rest = (given b.smallest hand (up_of b (first_child b.ranks rank)).need).rest in
       let is = ap load (got_right b rank ∙ ap (λ (f : Fall). f.second) (down_step b rank)) in
-      let fits = parted_load b.smallest some rest (up_of b (second_child b.ranks rank)).need in
+      let fits = given_fits b.smallest some rest (up_of b (second_child b.ranks rank)).need in
       let child = ap (λ (o : Option ℕ). (up_of b o).need) (cond-true (nat_lt (2 * rank + 2) b.ranks) (Some (2 * rank + 2)) None (lt-ltb (2 * rank + 2) b.ranks inside)) in
       omega (arith, is, fits, child)
 
@@ -121,17 +153,17 @@ module _ (b : Balancing) (most : ℕ) (some : 0 < b.smallest) (own : (rank : ℕ
 
   -- two gifts fall short by a grain each
   gifts : (hand : List Placed) (x y : ℕ) → Each (IsThin most) hand
-      → let rest = (parted b.smallest hand x).rest in
-      let left = (parted b.smallest rest y).rest in
+      → let rest = (given b.smallest hand x).rest in
+      let left = (given b.smallest rest y).rest in
       (load left + x + y ≤ load hand + 2 * grain b.smallest most) ⊎ (load left ≡ 0)
   gifts hand x y thin =
-      let first = parted b.smallest hand x in
-      let second = parted b.smallest first.rest y in
-      let rest_thin = (parted_each (IsThin most) (thin_inherits most) (λ q h. h.not_empty) b.smallest some hand x thin).1 in
-      let one = parted_total size_of cells_shared b.smallest some hand x (λ q m. (thin q m).not_empty) in
-      let two = parted_total size_of cells_shared b.smallest some first.rest y (λ q m. (rest_thin q m).not_empty) in
-      elim (parted_short b.smallest some most hand x thin) [
-        | inl short ↦ elim (parted_short b.smallest some most first.rest y rest_thin) [
+      let first = given b.smallest hand x in
+      let second = given b.smallest first.rest y in
+      let rest_thin = (given_each (IsThin most) (thin_inherits most) (λ q h. h.not_empty) b.smallest some hand x thin).1 in
+      let one = given_total size_of cells_shared b.smallest some hand x (λ q m. (thin q m).not_empty) in
+      let two = given_total size_of cells_shared b.smallest some first.rest y (λ q m. (rest_thin q m).not_empty) in
+      elim (given_short b.smallest some most hand x thin) [
+        | inl short ↦ elim (given_short b.smallest some most first.rest y rest_thin) [
           | inl short_too ↦ inl (omega (arith, short, short_too, one, two))
           | inr all ↦ inr (ap load all)
         ]

@@ -1,15 +1,38 @@
 -- The way down: each rank's step from that of its parent, and what holds of all pieces on it.
 use Rattle.std.proofs.Common.{◌≡◌, ℕ, zero, suc, ◌+◌, ◌-◌, ◌*◌, ◌/◌, ◌%◌, ◌<◌, ◌≤◌, refl, sym, ap, subst, ◌∙◌, inl, inr, arith, nat_lt, nat_eq}
-use Rattle.std.proofs.lemmas.Bool.{cond_both, cond-true, cond-false, lt-ltb, le-ltb, eq-eqb, ne_eqb, cases_lt}
+use Rattle.std.proofs.lemmas.Bool.{cond_both, cond-true, cond-false, lt-ltb, le-ltb, eq-eqb, ne_eqb, cases_lt, cases_eq}
 use Rattle.std.specs.Prelude.{cond, List, [], ◌++◌, Option, Some, None, option_map, ◌⊎◌}
 use Rattle.samr_tree.specs.Tree.{parent, first_child, second_child}
-use Rattle.samr_load.specs.Pieces.{Placed, piece_cmp}
-use Rattle.samr_load.specs.Taking.{parted}
-use Rattle.samr_load.specs.Ascent.{Balancing, up_of, stayed}
-use Rattle.samr_load.specs.Descent.{Fall, fall_of, share, down_from, down, got, pieces_of}
+use Rattle.samr_load.specs.Pieces.{Placed, piece_cmp, total}
+use Rattle.samr_load.specs.Taking.{Parted, parted}
+use Rattle.samr_load.specs.Ascent.{Balancing, up_of, up, stayed}
+use Rattle.samr_load.specs.Descent.{Fall, given, fall_of, share, down_from, down, got, pieces_of}
 use Rattle.samr_load.proofs.Totals.{Each, each_none, each_append, each_sorted}
-use Rattle.samr_load.proofs.Parting.{IsSolid, Inherits, parted_each}
+use Rattle.samr_load.proofs.Parting.{IsSolid, SharesOut, Inherits, parted_total, parted_each}
 use Rattle.samr_load.proofs.Ascents.{stayed_each}
+
+-- what a child is given and what stays have the hand's total, and any fact that both parts of a cut inherit
+pub given_total : (m : Placed → ℕ) → SharesOut m → (s : ℕ) → 0 < s → (hand : List Placed) (need : ℕ) → Each IsSolid hand
+    → total m (given s hand need).taken + total m (given s hand need).rest ≡ total m hand
+given_total m shares s some hand need full =
+    cond_both {A = Parted} (nat_eq need 0) (record { taken = []; rest = hand }) (parted s hand need)
+    (λ (p : Parted). total m p.taken + total m p.rest ≡ total m hand)
+    (λ _. omega arith)
+    (λ _. parted_total m shares s some hand need full)
+
+pub given_each : (P : Placed → Type 0) → Inherits P → ((q : Placed) → P q → IsSolid q) → (s : ℕ) → 0 < s → (hand : List Placed) (need : ℕ)
+    → Each P hand → Each P (given s hand need).taken × Each P (given s hand need).rest
+given_each P inherits solid s some hand need each =
+    cond_both {A = Parted} (nat_eq need 0) (record { taken = []; rest = hand }) (parted s hand need)
+    (λ (p : Parted). Each P p.taken × Each P p.rest)
+    (λ _. (each_none P, each))
+    (λ _. parted_each P inherits solid s some hand need each)
+
+-- a child that needs nothing is given nothing, and the hand stays
+pub given_nothing : (s : ℕ) (hand : List Placed) (need : ℕ) → need ≡ 0
+    → given s hand need ≡ (let p : Parted = record { taken = []; rest = hand } in p)
+given_nothing s hand need none =
+    cond-true {A = Parted} (nat_eq need 0) (record { taken = []; rest = hand }) (parted s hand need) (eq-eqb need 0 none)
 
 -- the parent of a rank is at least one number before it
 pub parent_of : (rank : ℕ) → 0 < rank → parent rank ≡ Some ((rank - 1) / 2)
@@ -73,6 +96,44 @@ module _ (b : Balancing) where
       got_of rank (2 * rank + 2) (omega arith) (omega arith)
       ∙ cond-false (nat_eq ((2 * rank + 2) % 2) 1) (down b rank).first (down b rank).second (ne_eqb ((2 * rank + 2) % 2) 1 (λ odd. absurd (omega arith)))
 
+  -- a rank that needs nothing is given nothing
+  none_left : (rank : ℕ) → 2 * rank + 1 < b.ranks → (up b (2 * rank + 1)).need ≡ 0 → got b (2 * rank + 1) ≡ []
+  none_left rank inside none =
+      let child = ap (λ (o : Option ℕ). (up_of b o).need) (cond-true (nat_lt (2 * rank + 1) b.ranks) (Some (2 * rank + 1)) None (lt-ltb (2 * rank + 1) b.ranks inside)) in
+      got_left rank ∙ ap (λ (f : Fall). f.first) (down_step rank)
+      ∙ ap (λ (p : Parted). p.taken) (given_nothing b.smallest (stayed b rank ++ got b rank) (up_of b (first_child b.ranks rank)).need (child ∙ none))
+
+  none_right : (rank : ℕ) → 2 * rank + 2 < b.ranks → (up b (2 * rank + 2)).need ≡ 0 → got b (2 * rank + 2) ≡ []
+  none_right rank inside none =
+      let rest = (given b.smallest (stayed b rank ++ got b rank) (up_of b (first_child b.ranks rank)).need).rest in
+      let child = ap (λ (o : Option ℕ). (up_of b o).need) (cond-true (nat_lt (2 * rank + 2) b.ranks) (Some (2 * rank + 2)) None (lt-ltb (2 * rank + 2) b.ranks inside)) in
+      got_right rank ∙ ap (λ (f : Fall). f.second) (down_step rank)
+      ∙ ap (λ (p : Parted). p.taken) (given_nothing b.smallest rest (up_of b (second_child b.ranks rank)).need (child ∙ none))
+
+  pub got_none : (rank : ℕ) → rank < b.ranks → (up b rank).need ≡ 0 → got b rank ≡ []
+  got_none rank inside none = by_child rank inside none (cases_lt 0 rank) (cases_eq rank (2 * ((rank - 1) / 2) + 1))
+    where
+      by_child : (r : ℕ) → r < b.ranks → (up b r).need ≡ 0 → (0 < r) ⊎ (r ≤ 0)
+          → (r ≡ 2 * ((r - 1) / 2) + 1) ⊎ (r ≡ 2 * ((r - 1) / 2) + 1 → ⊥) → got b r ≡ []
+      by_child r inside none (inr root) e = let at_root : r ≡ 0 = omega arith in ap (got b) at_root ∙ got_root
+      by_child r inside none (inl child) (inl e) =
+          let P : ℕ → Type 0 = λ c. c < b.ranks → (up b c).need ≡ 0 → got b c ≡ [] in
+          subst P (sym e) (none_left ((r - 1) / 2)) inside none
+      by_child r inside none (inl child) (inr other) =
+          let e : r ≡ 2 * ((r - 1) / 2) + 2 = omega (arith, other) in
+          let P : ℕ → Type 0 = λ c. c < b.ranks → (up b c).need ≡ 0 → got b c ≡ [] in
+          subst P (sym e) (none_right ((r - 1) / 2)) inside none
+
+  -- where no child needs anything, the hand stays
+  pub down_stays : (rank : ℕ) → (up_of b (first_child b.ranks rank)).need ≡ 0 → (up_of b (second_child b.ranks rank)).need ≡ 0
+      → (down b rank).left ≡ stayed b rank ++ got b rank
+  down_stays rank one two =
+      let hand = stayed b rank ++ got b rank in
+      ap (λ (f : Fall). f.left) (down_step rank)
+      ∙ ap (λ (p : Parted). (given b.smallest p.rest (up_of b (second_child b.ranks rank)).need).rest)
+      (given_nothing b.smallest hand (up_of b (first_child b.ranks rank)).need one)
+      ∙ ap (λ (p : Parted). p.rest) (given_nothing b.smallest hand (up_of b (second_child b.ranks rank)).need two)
+
   module _ (P : Placed → Type 0) (inherits : Inherits P) (solid : (q : Placed) → P q → IsSolid q) (some : 0 < b.smallest)
       (own : (rank : ℕ) → rank < b.ranks → Each P (b.own rank)) where
     abbrev AllGiven : Fall → Type 0
@@ -83,8 +144,8 @@ module _ (b : Balancing) where
         let hand = each_append P (stayed b rank) l (stayed_each b P inherits solid some own rank inside) each in
         let x = (up_of b (first_child b.ranks rank)).need in
         let y = (up_of b (second_child b.ranks rank)).need in
-        let first = parted_each P inherits solid b.smallest some (stayed b rank ++ l) x hand in
-        let second = parted_each P inherits solid b.smallest some (parted b.smallest (stayed b rank ++ l) x).rest y first.1 in
+        let first = given_each P inherits solid b.smallest some (stayed b rank ++ l) x hand in
+        let second = given_each P inherits solid b.smallest some (given b.smallest (stayed b rank ++ l) x).rest y first.1 in
         (first.0, second.0, second.1)
 
     share_each : (rank : ℕ) (f : Fall) → AllGiven f → Each P (share rank (Some f))

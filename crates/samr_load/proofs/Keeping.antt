@@ -6,16 +6,16 @@ use Rattle.samr_bits.specs.Sums.{sum_below}
 use Rattle.samr_bits.proofs.Sums.{sum_ext}
 use Rattle.samr_tree.specs.Tree.{first_child, second_child}
 use Rattle.samr_load.specs.Pieces.{Placed, piece_cmp, size_of, total, load}
-use Rattle.samr_load.specs.Taking.{parted}
+use Rattle.samr_load.specs.Taking.{Parted}
 use Rattle.samr_load.specs.Ascent.{Balancing, Climb, up_of, up, stayed}
-use Rattle.samr_load.specs.Descent.{Fall, down, got, pieces_of}
+use Rattle.samr_load.specs.Descent.{Fall, given, down, got, pieces_of}
 use Rattle.samr_load.proofs.Totals.{Each, total-append, total-sorted, each_append}
 use Rattle.samr_load.proofs.Flows.{IsFlow, flow, no_more}
-use Rattle.samr_load.proofs.Parting.{IsSolid, SharesOut, parted_total, parted_each}
+use Rattle.samr_load.proofs.Parting.{IsSolid, SharesOut, parted_total}
 use Rattle.samr_load.proofs.Shapes.{solid_inherits, cells_shared}
-use Rattle.samr_load.proofs.Takes.{parted_none, parted_load}
+use Rattle.samr_load.proofs.Takes.{parted_load}
 use Rattle.samr_load.proofs.Ascents.{up_outside, up_hand, up_wanted, up_is, of_first, of_second, up_each, stayed_each}
-use Rattle.samr_load.proofs.Descents.{down_step, got_root, got_left, got_right, got_each}
+use Rattle.samr_load.proofs.Descents.{given_total, given_each, given_nothing, down_step, got_root, got_left, got_right, got_each}
 
 -- a number of the ranks that there are
 abbrev pub only : ℕ → (ℕ → ℕ) → ℕ → ℕ
@@ -92,13 +92,13 @@ module _ (b : Balancing) (some : 0 < b.smallest) (own : (rank : ℕ) → rank < 
         (got_each b IsSolid solid_inherits (λ q h. h) some own rank inside)
 
     -- a child that there is not needs nothing, and is given nothing
-    gift : (child : ℕ) (t : Bool) (hand given : List Placed) → nat_lt child b.ranks ≡ t → Each IsSolid hand
-        → given ≡ (parted b.smallest hand (up_of b (cond t (Some child) None)).need).taken → got b child ≡ given
-        → total m given ≡ only b.ranks (λ r. total m (got b r)) child
-    gift child true hand given e full is same = sym (ap (total m) same) ∙ sym (cond-true (nat_lt child b.ranks) (total m (got b child)) 0 e)
-    gift child false hand given e full is same =
+    gift : (child : ℕ) (t : Bool) (hand part : List Placed) → nat_lt child b.ranks ≡ t
+        → part ≡ (given b.smallest hand (up_of b (cond t (Some child) None)).need).taken → got b child ≡ part
+        → total m part ≡ only b.ranks (λ r. total m (got b r)) child
+    gift child true hand part e is same = sym (ap (total m) same) ∙ sym (cond-true (nat_lt child b.ranks) (total m (got b child)) 0 e)
+    gift child false hand part e is same =
         let need : (up_of b None).need ≡ 0 = ap (λ (c : Climb). c.need) (up_outside b) in
-        let none : given ≡ [] = is ∙ ap (λ (n : ℕ). (parted b.smallest hand n).taken) need ∙ parted_none b.smallest some hand full in
+        let none : part ≡ [] = is ∙ ap (λ (p : Parted). p.taken) (given_nothing b.smallest hand (up_of b None).need need) in
         ap (total m) none ∙ sym (cond-false (nat_lt child b.ranks) (total m (got b child)) 0 e)
 
     pub down_flow : IsFlow b.ranks
@@ -113,16 +113,16 @@ module _ (b : Balancing) (some : 0 < b.smallest) (own : (rank : ℕ) → rank < 
           let full = solid_down r inside in
           let x = (up_of b (first_child n r)).need in
           let y = (up_of b (second_child n r)).need in
-          let rest = (parted b.smallest hand x).rest in
-          let rest_full = (parted_each IsSolid solid_inherits (λ q h. h) b.smallest some hand x full).1 in
-          let one = parted_total m shares b.smallest some hand x full in
-          let two = parted_total m shares b.smallest some rest y rest_full in
+          let rest = (given b.smallest hand x).rest in
+          let rest_full = (given_each IsSolid solid_inherits (λ q h. h) b.smallest some hand x full).1 in
+          let one = given_total m shares b.smallest some hand x full in
+          let two = given_total m shares b.smallest some rest y rest_full in
           let step = down_step b r in
           let first_is = ap (λ (f : Fall). f.first) step in
           let second_is = ap (λ (f : Fall). f.second) step in
           let left_is = ap (λ (f : Fall). total m f.left) step in
-          let first = gift (2 * r + 1) (nat_lt (2 * r + 1) n) hand (down b r).first refl full first_is (got_left b r) in
-          let second = gift (2 * r + 2) (nat_lt (2 * r + 2) n) rest (down b r).second refl rest_full second_is (got_right b r) in
+          let first = gift (2 * r + 1) (nat_lt (2 * r + 1) n) hand (down b r).first refl first_is (got_left b r) in
+          let second = gift (2 * r + 2) (nat_lt (2 * r + 2) n) rest (down b r).second refl second_is (got_right b r) in
           let first_total = ap (total m) first_is in
           let second_total = ap (total m) second_is in
           omega (arith, one, two, left_is, first, second, first_total, second_total);

@@ -1,16 +1,14 @@
 -- How many cells a take gives: not more than are wanted, and less than a grain fewer, unless it gives all.
 use Rattle.std.proofs.Common.{◌≡◌, ℕ, ◌+◌, ◌-◌, ◌*◌, ◌/◌, ◌<◌, ◌≤◌, refl, sym, ap, ◌∙◌, inl, inr, arith, nat_le, min}
-use Rattle.std.proofs.Math.Nat.{add-mul, mul-le-mul_left, mul-le-mul_right, div-mul-le_self, lt-div-mul-add, div-lt_iff_lt-mul, div-le_self, min-eq_left, min-eq_right}
-use Rattle.std.proofs.lemmas.Bool.{cond_both, cond-false, leb-true, leb-false, lt-leb, cases_lt}
-use Rattle.std.specs.Prelude.{false, List, [], ◌∷◌, ◌⊎◌}
+use Rattle.std.proofs.Math.Nat.{add-mul, mul-le-mul_left, mul-le-mul_right, div-mul-le_self, lt-div-mul-add, div-lt_iff_lt-mul, min-eq_left, min-eq_right}
+use Rattle.std.proofs.lemmas.Bool.{cond_both, leb-true, leb-false, cases_lt}
+use Rattle.std.specs.Prelude.{List, [], ◌∷◌, ◌⊎◌}
 use Rattle.samr_box.specs.Corners.{cells_of, span, longest_of, before}
 use Rattle.samr_load.specs.Pieces.{Placed, piece_cmp, size_of, load, sorted}
 use Rattle.samr_load.specs.Taking.{Parted, across, planes_taken, cut_at, lower, upper, cut_first, with_first, taking, parted}
 use Rattle.samr_load.specs.Laws.{IsThin, grain}
 use Rattle.samr_load.proofs.Totals.{Each, each_head, each_tail, each_sorted}
-use Rattle.samr_load.proofs.Parting.{IsSolid}
-use Rattle.samr_load.proofs.Shapes.{cells_across, across_before, planes_before, some_across, some_cells}
-use Rattle.samr_load.proofs.TakeSteps.{taking_cuts}
+use Rattle.samr_load.proofs.Shapes.{cells_across, across_before, planes_before, some_across}
 
 -- the numbers: so many planes of so many cells, where there is room for so many cells
 min_cases : (x y : ℕ) → (min x y ≡ x) ⊎ (min x y ≡ y)
@@ -90,24 +88,6 @@ module _ (s : ℕ) (some : 0 < s) where
   -- not more is taken than is wanted
   pub parted_load : (qs : List Placed) (want : ℕ) → load (parted s qs want).taken ≤ want
   parted_load qs want = taking_load (sorted piece_cmp qs) want
-
-  -- where nothing is wanted, nothing is taken
-  taking_none : (qs : List Placed) → Each IsSolid qs → (taking s qs 0).taken ≡ []
-  unfolding taking
-  taking_none [] full = refl
-  taking_none (q ∷ qs) full =
-      let h = each_head IsSolid q qs full in
-      let a = across (longest_of q.bx) q.bx in
-      let none : nat_le s (planes_taken s q.bx 0) ≡ false =
-      lt-leb s (planes_taken s q.bx 0) (omega (arith, div-le_self 0 a, some)) in
-      ap (λ (p : Parted). p.taken) (taking_cuts s q qs 0 (some_cells q.bx h))
-      ∙ ap (λ (p : Parted). p.taken)
-      (cond-false {A = Parted} (nat_le s (planes_taken s q.bx 0))
-      (record { taken = lower s q 0 ∷ []; rest = upper s q 0 ∷ qs })
-      (record { taken = []; rest = q ∷ qs }) none)
-
-  pub parted_none : (qs : List Placed) → Each IsSolid qs → (parted s qs 0).taken ≡ []
-  parted_none qs full = taking_none (sorted piece_cmp qs) (each_sorted IsSolid piece_cmp qs full)
 
   module _ (most : ℕ) where
     abbrev Short : ℕ → Parted → Type 0

@@ -2,7 +2,7 @@
 use Rattle.std.specs.Prelude.{ℕ, zero, suc, ◌%◌, nat_eq, cond, List, [], ◌++◌, Option, Some, None, option_map}
 use Rattle.samr_tree.specs.Tree.{parent, first_child, second_child}
 use Rattle.samr_load.specs.Pieces.{Placed, piece_cmp, sorted}
-use Rattle.samr_load.specs.Taking.{parted}
+use Rattle.samr_load.specs.Taking.{Parted, parted}
 use Rattle.samr_load.specs.Ascent.{Balancing, up_of, stayed}
 
 -- a rank on the way down: what it gives its first and its second child, and what is left
@@ -11,11 +11,16 @@ pub record Fall : Type 0 where
   pub second : List Placed
   pub left : List Placed
 
--- it gives each child what it needs, or what a take gives of it
+-- what a child that needs so many cells is given of a hand: what a take gives. One that needs nothing is no step of the way
+-- down, and the hand stays as it is
+abbrev pub given : ℕ → List Placed → ℕ → Parted
+given smallest hand need = cond (nat_eq need 0) (record { taken = []; rest = hand }) (parted smallest hand need)
+
+-- it gives its first child what this needs, and then its second
 abbrev pub fall : ℕ → List Placed → ℕ → ℕ → Fall
 fall smallest hand first second =
-    let p = parted smallest hand first in
-    let q = parted smallest p.rest second in
+    let p = given smallest hand first in
+    let q = given smallest p.rest second in
     record { first = p.taken; second = q.taken; left = q.rest }
 
 -- a rank that was given some pieces

@@ -1,5 +1,6 @@
 pub mod Nodes
 pub mod Covering
+pub mod Sorting
 pub mod Open
 pub mod Lists
 pub mod NearLaws

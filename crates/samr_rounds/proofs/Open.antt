@@ -12,8 +12,10 @@ use Rattle.samr_box.proofs.Members.{Member-append_left, Member-append_right, Mem
 use Rattle.samr_sign.specs.declared.rule.CutRule.{CutRule}
 use Rattle.samr_sign.specs.Laws.{depth}
 use Rattle.samr_rounds.specs.Clusters.{accepted, parts, decided, cut_up, clusters_in, clusters}
+use Rattle.samr_rounds.specs.Sorted.{sorted, corner_less}
 use Rattle.samr_rounds.specs.Rounds.{below, accepted_of, opened, taken, told}
 use Rattle.samr_rounds.specs.Laws.{IsNode, AreNodes}
+use Rattle.samr_rounds.proofs.Sorting.{Member-sorted, Member-from_sorted, filter-sorted, corner_ranks}
 use Rattle.samr_rounds.proofs.Nodes.{part_is, depth_some}
 
 -- a round later is a round of the parts
@@ -28,11 +30,13 @@ taken_front t rule nodes q = ap (accepted_of t rule) (opened_front t rule nodes 
 
 pub Member-below : (t : IVec → Bool) (rule : CutRule) (b p : Corners) (nodes : List Corners) → Member b nodes → Member p (parts (decided t rule b)) → Member p (below t rule nodes)
 unfolding below
-Member-below t rule b p nodes m n = Member-flat_map (λ v. parts (decided t rule v)) p b nodes m n
+Member-below t rule b p nodes m n =
+    Member-sorted corner_less p (flat_map (λ v. parts (decided t rule v)) nodes) (Member-flat_map (λ v. parts (decided t rule v)) p b nodes m n)
 
 pub Member-from_below : (t : IVec → Bool) (rule : CutRule) (p : Corners) (nodes : List Corners) → Member p (below t rule nodes) → (b : Corners) × Member b nodes × Member p (parts (decided t rule b))
 unfolding below
-Member-from_below t rule p nodes m = Member-from_flat_map (λ v. parts (decided t rule v)) p nodes m
+Member-from_below t rule p nodes m =
+    Member-from_flat_map (λ v. parts (decided t rule v)) p nodes (Member-from_sorted corner_less p (flat_map (λ v. parts (decided t rule v)) nodes) m)
 
 pub below_nodes : (t : IVec → Bool) (rule : CutRule) (nodes : List Corners) → AreNodes nodes → AreNodes (below t rule nodes)
 below_nodes t rule nodes h p m = let r = Member-from_below t rule p nodes m in (part_is t rule r.0 p (h r.0 r.1) r.2).node
@@ -166,12 +170,19 @@ filter_step near t rule b nodes false e h down rest =
     ∙ sym (filter-append near (parts (decided t rule b)) (parts_of t rule nodes)
     ∙ ap (λ l. l ++ filter near (parts_of t rule nodes)) (filter_none near (parts (decided t rule b)) (λ p m n. false≢true (sym e ∙ down b p h m n))))
 
+filter_flat : (near : Corners → Bool) (t : IVec → Bool) (rule : CutRule) (nodes : List Corners) → AreNodes nodes → GoesDown near t rule
+    → filter near (parts_of t rule (filter near nodes)) ≡ filter near (parts_of t rule nodes)
+filter_flat near t rule [] h down = refl
+filter_flat near t rule (b ∷ nodes) h down =
+    filter_step near t rule b nodes (near b) refl (h b (inl refl)) down (filter_flat near t rule nodes (λ c m. h c (inr m)) down)
+
 filter_parts : (near : Corners → Bool) (t : IVec → Bool) (rule : CutRule) (nodes : List Corners) → AreNodes nodes → GoesDown near t rule
     → filter near (below t rule (filter near nodes)) ≡ filter near (below t rule nodes)
 unfolding below
-filter_parts near t rule [] h down = refl
-filter_parts near t rule (b ∷ nodes) h down =
-    filter_step near t rule b nodes (near b) refl (h b (inl refl)) down (filter_parts near t rule nodes (λ c m. h c (inr m)) down)
+filter_parts near t rule nodes h down =
+    filter-sorted corner_less (corner_ranks (λ b. b)) near (parts_of t rule (filter near nodes))
+    ∙ ap (sorted corner_less) (filter_flat near t rule nodes h down)
+    ∙ sym (filter-sorted corner_less (corner_ranks (λ b. b)) near (parts_of t rule nodes))
 
 pub told_is : (near : Corners → Bool) (t : IVec → Bool) (rule : CutRule) (roots : List Corners) (q : ℕ) → AreNodes roots → GoesDown near t rule
     → filter near (told near t rule roots q) ≡ filter near (opened t rule roots q)

@@ -1,4 +1,5 @@
 pub mod Clusters
+pub mod Sorted
 pub mod Rounds
 pub mod Near
 pub mod Images

@@ -1,8 +1,7 @@
 -- The cover's stages of all ranks.
-use Rattle.std.proofs.Common.{◌≡◌, ℕ, ◌<◌, List, length, get_or, sym, ap, ◌∙◌, refl, subst, arith, Some, Vec}
+use Rattle.std.proofs.Common.{◌≡◌, ℕ, ◌<◌, List, length, get_or, sym, ap, ◌∙◌, refl, subst, arith, Some}
 use Rattle.std.proofs.lemmas.Option.{slice_get-get_or}
 use Rattle.std.proofs.lemmas.List.FromFn.{length-map-range_with_len}
-use Rattle.std.specs.Global.{Global}
 use Rattle.samr_box.specs.declared.vector.IVec.{IVec}
 use Rattle.samr_box.specs.Space.{Space, IsSpace, finer}
 use Rattle.samr_level.specs.declared.parts.Pair.{Pair}
@@ -12,7 +11,7 @@ use Rattle.samr_tags.specs.CoverParts.{down_pair, HasCovers}
 use Rattle.samr_tags.specs.CoverOnAll.{HaveAllCovers}
 use Rattle.samr_tags.proofs.BufferOnAllLaws.{its_own}
 
-module _ (frame : Space) (fields : List (Vec Field Global)) (covers : List Pair) (nest upper lower : IVec) (w : Covering) (h : HaveAllCovers frame fields covers nest upper lower w) where
+module _ (frame : Space) (fields : List (List Field)) (covers : List Pair) (nest upper lower : IVec) (w : Covering) (h : HaveAllCovers frame fields covers nest upper lower w) where
   pub ranks_covers : length covers ≡ w.ranks
   ranks_covers = ap length h.same_covers ∙ length-map-range_with_len (λ rank. down_pair w rank) 0 w.ranks
 
@@ -24,8 +23,8 @@ module _ (frame : Space) (fields : List (Vec Field Global)) (covers : List Pair)
       subst (λ (s : Space). IsSpace (finer s p.forth.head_ratio)) (sym h.same_frame)
       (subst (λ (x : Pair). IsSpace (finer w.frame x.forth.head_ratio)) (sym is) h.finer_frame)
 
-  pub has_covers : (rank ranks : ℕ) (own : Vec Field Global) (p : Pair) → rank < w.ranks → ranks ≡ w.ranks → own ≡ get_or fields rank own → p ≡ down_pair w rank
-      → HasCovers rank ranks frame own.items p nest upper lower w rank
+  pub has_covers : (rank ranks : ℕ) (own : List Field) (p : Pair) → rank < w.ranks → ranks ≡ w.ranks → own ≡ get_or fields rank own → p ≡ down_pair w rank
+      → HasCovers rank ranks frame own p nest upper lower w rank
   has_covers rank ranks own p within same mine is = record {
     owned = h.owned;
     same_rank = refl;
@@ -33,7 +32,7 @@ module _ (frame : Space) (fields : List (Vec Field Global)) (covers : List Pair)
     within = within;
     same_frame = h.same_frame;
     same_tags = h.same_tags rank own
-        (let count = h.same_ranks in slice_get-get_or fields rank own (omega (arith, within, count)) ∙ ap (λ (v : Vec Field Global). Some v) (sym mine));
+        (let count = h.same_ranks in slice_get-get_or fields rank own (omega (arith, within, count)) ∙ ap (λ (v : List Field). Some v) (sym mine));
     same_pair = is;
     same_nest = h.same_nest;
     same_upper = h.same_upper;

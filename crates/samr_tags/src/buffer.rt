@@ -86,7 +86,7 @@ impl Buffer {
 impl Stage for Buffer {
     type Body = Listed<Seen>;
 
-    type Out = Vec<TagField>;
+    type Out = Listed<TagField>;
 
     ghost Whole = { Tagging };
 
@@ -94,7 +94,7 @@ impl Stage for Buffer {
 
     ghost says = { buffer_row };
 
-    ghost gives = { λ w rank out. IsTagging w → AreTags (own_boxes rank w.level) (tags_of w) out.items };
+    ghost gives = { λ w rank out. IsTagging w → AreTags (own_boxes rank w.level) (tags_of w) out };
 
     ghost weight_of = { λ _. 1 };
 
@@ -119,12 +119,16 @@ impl Stage for Buffer {
         self.peers.len() as u64
     }
 
-    fn finish(self, alloc: Global, held: Vec<Held<Listed<Seen>>>) -> Result<Vec<TagField>, NoMemory>
+    fn finish(
+        self,
+        alloc: Global,
+        held: Vec<Held<Listed<Seen>>>,
+    ) -> Result<Listed<TagField>, NoMemory>
         requires { (w : Tagging) × (rank : ℕ) × HasSeen self.rank self.frame self.buffer self.boxes.items self.own.items self.peers.items w rank
             × (held.items ≡ heard (column (buffer_row w) rank) w.ranks) }
         ensures { IfOk result (λ out. (w : Tagging) (rank : ℕ)
             → HasSeen self.rank self.frame self.buffer self.boxes.items self.own.items self.peers.items w rank
-            → held.items ≡ heard (column (buffer_row w) rank) w.ranks → IsTagging w → AreTags (own_boxes rank w.level) (tags_of w) out.items) }
+            → held.items ≡ heard (column (buffer_row w) rank) w.ranks → IsTagging w → AreTags (own_boxes rank w.level) (tags_of w) out) }
     {
         let fields = all_marked(
             alloc,
@@ -135,7 +139,7 @@ impl Stage for Buffer {
             &self.frame,
             self.buffer,
         )?;
-        Ok(fields)
+        Ok(Listed::from_vec(fields))
     }
 
     ghost positive = { λ _ _ _ _ _. heavy };

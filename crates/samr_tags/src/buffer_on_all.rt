@@ -13,7 +13,7 @@ ghost use Rattle.samr_tags.specs.BufferOnAll.{HaveAllSelves};
 
 use crate::buffer::Buffer;
 use crate::given::Given;
-use samr_box::{Domain, IVec};
+use samr_box::{Domain, IVec, Listed};
 use samr_level::{Pair, Part};
 use samr_sign::TagField;
 use samr_stage::exchange;
@@ -34,14 +34,14 @@ pub fn buffer_all<T: Given>(
     step: u32,
     level: u8,
     tag_buffer: IVec,
-) -> Result<Vec<Vec<TagField>>, NoMemory>
+) -> Result<Vec<Listed<TagField>>, NoMemory>
     requires told { All (λ p. All (λ e. (x : Cell) → Holds e.base.bx x → T.may_tell given.now level step x) p.forth.edges) selves.now }
     requires low { AtMost (alike (pos 0)) tag_buffer }
     requires range { InRange tag_buffer }
     requires few { length parts.now < 2 ^ 16 }
     requires parts { (w : Tagging) × HaveAllSelves d.now parts.now selves.now (T.is_tagged given.now level step) tag_buffer w }
     ensures { IfOk result (λ outs. (w : Tagging) → HaveAllSelves d.now parts.now selves.now (T.is_tagged given.now level step) tag_buffer w → IsTagging w
-        → (length outs.items ≡ w.ranks) × AreResults (λ w rank fields. AreTags (own_boxes rank w.level) (tags_of w) fields.items) w outs.items) }
+        → (length outs.items ≡ w.ranks) × AreResults (λ w rank fields. AreTags (own_boxes rank w.level) (tags_of w) fields) w outs.items) }
 {
     let ranks = parts.len() as u16;
     let mut stages = Vec::new(alloc);

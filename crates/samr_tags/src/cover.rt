@@ -27,7 +27,7 @@ use std::alloc::{AllocError as NoMemory, Global};
 pub struct Cover {
     rank: u16,
     needs: Needs,
-    fields: Vec<TagField>,
+    fields: Listed<TagField>,
     edges: Vec<Edge>,
     addressees: Vec<u16>,
     senders: Vec<u16>,
@@ -46,7 +46,7 @@ impl Cover {
         rank: u16,
         ranks: u16,
         d: &Domain,
-        fields: Vec<TagField>,
+        fields: Listed<TagField>,
         covers: &Pair,
         nest: IVec,
         upper: Ratio,
@@ -54,7 +54,7 @@ impl Cover {
     ) -> Result<Cover, NoMemory>
         requires frame { IsSpace (finer d.now covers.now.forth.head_ratio) }
         requires room { All (HasRoom (rule (finer d.now covers.now.forth.head_ratio) upper nest lower)) covers.now.forth.edges }
-        ensures { IfOk result (λ stage. (w : Covering) (r : ℕ) → HasCovers rank ranks d.now fields.items covers.now nest upper lower w r
+        ensures { IfOk result (λ stage. (w : Covering) (r : ℕ) → HasCovers rank ranks d.now fields covers.now nest upper lower w r
             → ⟦<Cover as Stage>⟧.starts stage w r) }
     {
         let ratio = covers.forth.head_ratio;
@@ -79,7 +79,7 @@ impl Cover {
 impl Stage for Cover {
     type Body = Listed<IBox>;
 
-    type Out = Vec<TagField>;
+    type Out = Listed<TagField>;
 
     ghost Whole = { Covering };
 
@@ -87,13 +87,13 @@ impl Stage for Cover {
 
     ghost says = { cover_row };
 
-    ghost gives = { λ w rank out. IsCovering w → AreTags (own_boxes rank w.level) (cover_tags w) out.items };
+    ghost gives = { λ w rank out. IsCovering w → AreTags (own_boxes rank w.level) (cover_tags w) out };
 
     ghost weight_of = { λ _. 1 };
 
-    ghost starts = { λ s w rank. HasNeeds s.rank s.needs s.fields.items s.edges.items s.addressees.items s.senders.items w rank };
+    ghost starts = { λ s w rank. HasNeeds s.rank s.needs s.fields s.edges.items s.addressees.items s.senders.items w rank };
 
-    ghost waits = { λ s w rank. HasNeeds s.rank s.needs s.fields.items s.edges.items s.addressees.items s.senders.items w rank };
+    ghost waits = { λ s w rank. HasNeeds s.rank s.needs s.fields s.edges.items s.addressees.items s.senders.items w rank };
 
     fn letters(&mut self, alloc: Global) -> Result<Vec<(u16, Listed<IBox>)>, NoMemory> {
         let mut letters = Vec::new(alloc);
@@ -112,16 +112,25 @@ impl Stage for Cover {
         self.senders.len() as u64
     }
 
-    fn finish(self, alloc: Global, held: Vec<Held<Listed<IBox>>>) -> Result<Vec<TagField>, NoMemory>
-        requires { (w : Covering) × (rank : ℕ) × HasNeeds self.rank self.needs self.fields.items self.edges.items self.addressees.items self.senders.items w rank
+    fn finish(
+        self,
+        alloc: Global,
+        held: Vec<Held<Listed<IBox>>>,
+    ) -> Result<Listed<TagField>, NoMemory>
+        requires { (w : Covering) × (rank : ℕ) × HasNeeds self.rank self.needs self.fields self.edges.items self.addressees.items self.senders.items w rank
             × (held.items ≡ heard (column (cover_row w) rank) w.ranks) }
         ensures { IfOk result (λ out. (w : Covering) (rank : ℕ)
-            → HasNeeds self.rank self.needs self.fields.items self.edges.items self.addressees.items self.senders.items w rank
-            → held.items ≡ heard (column (cover_row w) rank) w.ranks → IsCovering w → AreTags (own_boxes rank w.level) (cover_tags w) out.items) }
+            → HasNeeds self.rank self.needs self.fields self.edges.items self.addressees.items self.senders.items w rank
+            → held.items ≡ heard (column (cover_row w) rank) w.ranks → IsCovering w → AreTags (own_boxes rank w.level) (cover_tags w) out) }
     {
         let own = needed_of(alloc, &self.needs, self.rank, self.edges.as_slice())?;
-        let fields = mark_fields(alloc, self.fields, own.as_slice(), held.as_slice())?;
-        Ok(fields)
+        let fields = mark_fields(
+            alloc,
+            self.fields.into_vec(),
+            own.as_slice(),
+            held.as_slice(),
+        )?;
+        Ok(Listed::from_vec(fields))
     }
 
     ghost positive = { λ _ _ _ _ _. heavy };

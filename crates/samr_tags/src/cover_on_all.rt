@@ -11,7 +11,7 @@ ghost use Rattle.samr_tags.specs.CoverRow.{rule, HasRoom};
 ghost use Rattle.samr_tags.specs.CoverOnAll.{HaveAllCovers, AreAllNeeds};
 
 use crate::cover::Cover;
-use samr_box::{Domain, IVec, Ratio};
+use samr_box::{Domain, IVec, Listed, Ratio};
 use samr_level::Pair;
 use samr_sign::TagField;
 use samr_stage::exchange;
@@ -21,7 +21,7 @@ use std::alloc::{AllocError as NoMemory, Global};
 fn stages_of(
     alloc: Global,
     d: &Domain,
-    fields: Vec<Vec<TagField>>,
+    fields: Vec<Listed<TagField>>,
     covers: &[Pair],
     nest: IVec,
     upper: Ratio,
@@ -64,17 +64,17 @@ fn stages_of(
 pub fn cover_all(
     alloc: Global,
     d: &Domain,
-    fields: Vec<Vec<TagField>>,
+    fields: Vec<Listed<TagField>>,
     covers: &[Pair],
     nest: IVec,
     upper: Ratio,
     lower: Ratio,
-) -> Result<Vec<Vec<TagField>>, NoMemory>
+) -> Result<Vec<Listed<TagField>>, NoMemory>
     requires few { length fields.items < 2 ^ 16 }
     requires room { All (λ p. All (HasRoom (rule (finer d.now p.forth.head_ratio) upper nest lower)) p.forth.edges) covers.now }
     requires parts { (w : Covering) × HaveAllCovers d.now fields.items covers.now nest upper lower w }
     ensures { IfOk result (λ outs. (w : Covering) → HaveAllCovers d.now fields.items covers.now nest upper lower w → IsCovering w
-        → (length outs.items ≡ w.ranks) × AreResults (λ w rank out. AreTags (own_boxes rank w.level) (cover_tags w) out.items) w outs.items) }
+        → (length outs.items ≡ w.ranks) × AreResults (λ w rank out. AreTags (own_boxes rank w.level) (cover_tags w) out) w outs.items) }
 {
     let stages = stages_of(alloc, d, fields, covers, nest, upper, lower)?;
     let outs = exchange(alloc, stages)?;

@@ -3,6 +3,5 @@ pub mod SumLemmas
 pub mod TellLemmas
 pub mod Totals
 pub mod TreeTotals
-pub mod TreeCourse
-pub mod TreeSteps
+pub mod Seating
 pub mod OnAllLemmas

@@ -4,5 +4,6 @@ pub mod TellDown
 pub mod StageLaws
 pub mod TreeSum
 pub mod TreeLaws
-pub mod TreePlaces
+pub mod TreeParts
+pub mod TreePhases
 pub mod OnAll

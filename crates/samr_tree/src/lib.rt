@@ -2,8 +2,11 @@
 //! tree each rank adds what its children tell it, and down the tree each is told the total.
 #![tactic(auto)]
 
+mod going_down;
+mod going_up;
 mod numbers;
 mod on_all;
+mod parts;
 mod rounds;
 mod sum_mail;
 mod sum_up;

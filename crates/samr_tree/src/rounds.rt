@@ -1,10 +1,9 @@
 //! Which rounds of going up and of going down a rank visits.
 
-ghost use Rattle.std.specs.Prelude.{◌≡◌, ℕ, ◌+◌, ◌<◌, false, List, length, sum, IfSome, IfNone};
+ghost use Rattle.std.specs.Prelude.{◌≡◌, ℕ, ◌+◌, ◌<◌, false, List, length, sum};
 ghost use Rattle.std.specs.Option.{ForSome, option_map_or};
 ghost use Rattle.samr_tree.specs.Tree.{bottom, tells_up, told_down};
 ghost use Rattle.samr_tree.specs.TreeSum.{sums_at, tellings_at, goes_up, goes_down};
-ghost use Rattle.samr_tree.specs.TreePlaces.{IsNextRound, IsNoRound};
 
 use crate::tree::{children, depth, tells_up, told_down};
 
@@ -24,7 +23,7 @@ pub fn height(ranks: u16) -> u32
 
 /// Whether a rank visits a round of going up: it tells its parent, or a child tells it, or it is
 /// alone.
-fn goes_up(rank: u16, ranks: u16, round: u32) -> bool
+pub fn goes_up(rank: u16, ranks: u16, round: u32) -> bool
     requires { rank < ranks }
     ensures { result ≡ goes_up ranks round rank }
 {
@@ -46,7 +45,7 @@ fn child_tells(child: Option<u16>, ranks: u16, round: u32) -> bool
 }
 
 /// Whether a rank visits a round of going down: its parent tells it, or it tells a child.
-fn goes_down(rank: u16, ranks: u16, round: u32) -> bool
+pub fn goes_down(rank: u16, ranks: u16, round: u32) -> bool
     requires { rank < ranks }
     ensures { result ≡ goes_down ranks round rank }
 {
@@ -64,32 +63,4 @@ fn child_told(child: Option<u16>, ranks: u16, round: u32) -> bool
         Some(child) => told_down(child, ranks, round),
         None => false,
     }
-}
-
-/// The next round of going up that a rank visits, from this one on.
-pub fn next_up(rank: u16, ranks: u16, first: u32) -> Option<u32>
-    requires { rank < ranks }
-    ensures some { IfSome result (IsNextRound (λ round. goes_up ranks round rank) first (bottom ranks + 1)) }
-    ensures none { IfNone result (IsNoRound (λ round. goes_up ranks round rank) first (bottom ranks + 1)) }
-{
-    'each: for round in first..height(ranks) + 1 {
-        if goes_up(rank, ranks, round) {
-            return Some(round);
-        }
-    }
-    None
-}
-
-/// The next round of going down that a rank visits, from this one on.
-pub fn next_down(rank: u16, ranks: u16, first: u32) -> Option<u32>
-    requires { rank < ranks }
-    ensures some { IfSome result (IsNextRound (λ round. goes_down ranks round rank) first (bottom ranks)) }
-    ensures none { IfNone result (IsNoRound (λ round. goes_down ranks round rank) first (bottom ranks)) }
-{
-    'each: for round in first..height(ranks) {
-        if goes_down(rank, ranks, round) {
-            return Some(round);
-        }
-    }
-    None
 }

@@ -1,12 +1,13 @@
 //! The letters of a sum over all ranks, and how the two stages stand in them.
 
-ghost use Rattle.std.specs.Prelude.{◌≡◌, ◌↔◌, ℕ, Some, IsTrue};
+ghost use Rattle.std.specs.Prelude.{◌≡◌, ◌↔◌, ℕ, Some, IsTrue, refl};
 ghost use Rattle.std.proofs.Props.{props};
 ghost use Rattle.samr_tree.specs.TreeSum.{tree_course};
 
 use crate::numbers::Numbers;
 use crate::sum_up::SumUp;
 use crate::tell_down::TellDown;
+use samr_phase::Bodied;
 use samr_stage::{Carried, Mail, Name};
 use std::alloc::{AllocError as NoMemory, Global};
 
@@ -25,13 +26,6 @@ impl SumMail {
         ensures { Some result ≡ (tree_course (⟦<SumMail as Mail>⟧.run self.now)).letter (⟦<SumMail as Mail>⟧.name self.now) }
     {
         self.value
-    }
-
-    /// Whether the letter is of the sum of these numbers.
-    pub(crate) fn is_of(&self, numbers: &Numbers) -> bool
-        ensures { IsTrue result ↔ (⟦<SumMail as Mail>⟧.run self.now ≡ numbers.now) }
-    {
-        self.numbers.same(numbers)
     }
 }
 
@@ -65,6 +59,16 @@ impl Mail for SumMail {
     }
 
     ghost truth = { λ letter. letter.true_value };
+}
+
+impl Bodied<u64> for SumMail {
+    ghost letter_of = { λ numbers name. (tree_course numbers).letter name };
+
+    fn is_of(&self, numbers: &Numbers) -> bool {
+        self.numbers.same(numbers)
+    }
+
+    ghost same_letters = { λ numbers name. refl };
 }
 
 impl Carried<SumMail> for SumUp {

@@ -1,33 +1,42 @@
-//! The program of one rank of a sum over all ranks.
+//! The program of one rank of a sum over all ranks, put together of phases.
 
-ghost use Rattle.std.specs.Prelude.{◌≡◌, ◌+◌, ◌<◌, ◌≤◌, Bool, false, length, sum, map, IsSome, IfSome, IsOk, IfOk, OnOk, ◌↔◌};
+ghost use Rattle.std.specs.Prelude.{◌≡◌, ◌+◌, ◌<◌, Bool, true, false, length, sum, map, IsSome, IfSome, IsOk, IfOk, OnOk, ◌↔◌};
 ghost use Rattle.std.specs.Arc.{arc_value};
-ghost use Rattle.samr_stage.specs.Course.{IsOver, awaited};
+ghost use Rattle.samr_stage.specs.Course.{IsOver, awaited, label_at};
 ghost use Rattle.samr_stage.specs.Held.{IsHeld};
-ghost use Rattle.samr_tree.specs.TreeSum.{up_label as wanted_up, down_label as wanted_down};
-ghost use Rattle.samr_tree.specs.TreeSum.{AreSummable, rounds_up, rounds_down, sums_at, tellings_at, tree_course};
-ghost use Rattle.samr_tree.specs.TreePlaces.{place_after, place_of, label_in, IsLast, IsPlaced};
+ghost use Rattle.samr_tree.specs.TreeSum.{AreSummable, tree_course};
 ghost use Rattle.samr_tree.specs.TreeLaws.{tree_is_course};
+ghost use Rattle.samr_tree.specs.TreePhases.{sum_is_of, sum_is_run, first_round};
 
+use crate::going_down::GoingDown;
+use crate::going_up::GoingUp;
 use crate::numbers::Numbers;
-use crate::rounds::{next_down, next_up};
+use crate::parts::{Down, Seat, Total, Up};
 use crate::sum_mail::SumMail;
-use crate::sum_up::SumUp;
-use crate::tell_down::TellDown;
-use samr_stage::{Label, Mail, Program, enter_stage, finish_stage, ready_stage};
+use samr_phase::{Journey, Running, Then};
+use samr_stage::{Label, Mail, Program};
 use std::alloc::{AllocError as NoMemory, Global};
-use std::mem;
 use std::sync::Arc;
 
-/// What a rank is at: a round of going up, one of going down, or the end, where it has the total.
-/// After want of memory it has failed.
-#[derive(Drop)]
-enum State {
-    Up(SumUp),
-    Down(TellDown),
-    Over(u64),
-    Failed,
+/// All rounds of a sum: up the tree, and then down it.
+pub type AllRounds = Then<GoingUp, Down, GoingDown>;
+
+/// A sum over all ranks as a run.
+pub struct Summing {}
+
+impl Journey<SumMail, u64, Up, Total, AllRounds> for Summing {
+    ghost first = { first_round };
+
+    fn ranks(run: &Numbers) -> u16 {
+        run.ranks()
+    }
+
+    ghost course_is = { sum_is_of };
+
+    ghost is_run = { sum_is_run };
 }
+
+type Rounds = Running<SumMail, u64, Up, Total, AllRounds, Summing>;
 
 /// One rank's part of a sum over all ranks: each rank has a number, and in the end each has the sum
 /// of all of them.
@@ -37,10 +46,7 @@ enum State {
 /// is alone visits one round of phase 5.
 #[derive(Drop)]
 pub struct TreeSum {
-    numbers: Numbers,
-    rank: u16,
-    at: Label,
-    state: State,
+    rounds: Rounds,
 }
 
 impl TreeSum {
@@ -60,14 +66,13 @@ impl TreeSum {
     {
         let numbers = Numbers::new(run);
         let number = numbers.of(rank);
-        let mut program = TreeSum {
-            numbers,
+        let seat = Seat {
             rank,
-            at: NO_LABEL,
-            state: State::Failed,
+            ranks: numbers.ranks(),
+            round: 0,
         };
-        program.go_up(alloc, 0, number)?;
-        Ok(program)
+        let rounds = Running::new(alloc, numbers, rank, Up { seat, number })?;
+        Ok(TreeSum { rounds })
     }
 
     /// The sum of all numbers, once the rank has left all its labels.
@@ -78,67 +83,9 @@ impl TreeSum {
         ensures total { (entered : Bool) → ⟦<TreeSum as Program>⟧.stands self.now entered
             → IfSome result (λ total. total ≡ sum (⟦<TreeSum as Program>⟧.run self.now)) }
     {
-        match self.state {
-            State::Over(total) => Some(total),
-            State::Up(_) | State::Down(_) | State::Failed => None,
-        }
-    }
-
-    /// Goes on to the next round of going up that the rank visits, from this one on, and where
-    /// there is none to going down.
-    fn go_up(&mut self, alloc: Global, first: u32, number: u64) -> Result<(), NoMemory>
-        requires summable { AreSummable self.old.numbers }
-        requires is_rank { self.old.rank < length self.old.numbers }
-        requires first { first ≤ rounds_up self.old.numbers }
-        requires number { number ≡ (sums_at self.old.numbers first).number self.old.rank }
-        requires last { IsLast self.old.numbers self.old.rank self.old.at first }
-        ensures made { IsOk result }
-        ensures run { OnOk result (self.new.numbers ≡ self.old.numbers) }
-        ensures rank { OnOk result (self.new.rank ≡ self.old.rank) }
-        ensures place { OnOk result (place_of self.new.numbers self.new.rank self.new.at self.new.state
-            ≡ place_after self.old.numbers self.old.rank first) }
-        ensures stands { OnOk result (IsPlaced self.new.numbers self.new.rank self.new.at self.new.state) }
-    {
-        let ranks = self.numbers.ranks();
-        match next_up(self.rank, ranks, first) {
-            Some(round) => {
-                self.at = up_label(round);
-                self.state = State::Up(SumUp::start(alloc, self.rank, ranks, round, number)?);
-                Ok(())
-            }
-            None => {
-                self.go_down(alloc, 0, if self.rank == 0 { number } else { 0 })?;
-                Ok(())
-            }
-        }
-    }
-
-    /// Goes on to the next round of going down that the rank visits, from this one on, and where
-    /// there is none to the end.
-    fn go_down(&mut self, alloc: Global, first: u32, number: u64) -> Result<(), NoMemory>
-        requires summable { AreSummable self.old.numbers }
-        requires is_rank { self.old.rank < length self.old.numbers }
-        requires first { first ≤ rounds_down self.old.numbers }
-        requires number { number ≡ (tellings_at self.old.numbers first).number self.old.rank }
-        requires last { IsLast self.old.numbers self.old.rank self.old.at (rounds_up self.old.numbers + first) }
-        ensures made { IsOk result }
-        ensures run { OnOk result (self.new.numbers ≡ self.old.numbers) }
-        ensures rank { OnOk result (self.new.rank ≡ self.old.rank) }
-        ensures place { OnOk result (place_of self.new.numbers self.new.rank self.new.at self.new.state
-            ≡ place_after self.old.numbers self.old.rank (rounds_up self.old.numbers + first)) }
-        ensures stands { OnOk result (IsPlaced self.new.numbers self.new.rank self.new.at self.new.state) }
-    {
-        let ranks = self.numbers.ranks();
-        match next_down(self.rank, ranks, first) {
-            Some(round) => {
-                self.at = down_label(round);
-                self.state = State::Down(TellDown::start(alloc, self.rank, ranks, round, number)?);
-                Ok(())
-            }
-            None => {
-                self.state = State::Over(number);
-                Ok(())
-            }
+        match self.rounds.given() {
+            Some(end) => Some(end.total),
+            None => None,
         }
     }
 }
@@ -146,119 +93,61 @@ impl TreeSum {
 impl Program for TreeSum {
     type Mail = SumMail;
 
-    ghost run = { λ program. program.numbers };
+    ghost run = { λ program. ⟦<Rounds as Program>⟧.run program.rounds };
 
-    ghost rank_of = { λ program. program.rank };
+    ghost rank_of = { λ program. ⟦<Rounds as Program>⟧.rank_of program.rounds };
 
-    ghost place = { λ program. place_of program.numbers program.rank program.at program.state };
+    ghost place = { λ program. ⟦<Rounds as Program>⟧.place program.rounds };
 
-    ghost stands = { λ program _. IsPlaced program.numbers program.rank program.at program.state };
+    ghost stands = { λ program. ⟦<Rounds as Program>⟧.stands program.rounds };
 
     fn rank(&self) -> u16 {
-        self.rank
+        self.rounds.rank()
     }
 
     fn ranks(&self) -> u16 {
-        self.numbers.ranks()
+        self.rounds.ranks()
     }
 
     fn label(&self) -> Label {
-        self.at
+        self.rounds.label()
     }
 
     fn finished(&self) -> bool {
-        match self.state {
-            State::Over(_) => true,
-            State::Up(_) | State::Down(_) | State::Failed => false,
-        }
+        self.rounds.finished()
     }
 
     fn own_run(&self, letter: &SumMail) -> bool {
-        letter.is_of(&self.numbers)
+        self.rounds.own_run(letter)
     }
 
     fn enter(&mut self, alloc: Global) -> Result<Vec<SumMail>, NoMemory> {
-        match &mut self.state {
-            State::Up(stage) => {
-                let letters = enter_stage(alloc, &self.numbers, self.at, self.rank, stage)?;
-                Ok(letters)
-            }
-            State::Down(stage) => {
-                let letters = enter_stage(alloc, &self.numbers, self.at, self.rank, stage)?;
-                Ok(letters)
-            }
-            State::Over(_) => Err(NoMemory),
-            State::Failed => Err(NoMemory),
-        }
+        let letters = self.rounds.enter(alloc)?;
+        Ok(letters)
     }
 
     fn ready(&self, held: &[SumMail]) -> bool {
-        match &self.state {
-            State::Up(stage) => ready_stage(stage, held),
-            State::Down(stage) => ready_stage(stage, held),
-            State::Over(_) => false,
-            State::Failed => false,
-        }
+        self.rounds.ready(held)
     }
 
     fn finish(&mut self, alloc: Global, held: Vec<SumMail>) -> Result<(), NoMemory>
-        requires here { IsPlaced self.old.numbers self.old.rank self.old.at self.old.state }
-        requires going_on { ¬ IsOver (tree_course self.old.numbers) self.old.rank
-            (place_of self.old.numbers self.old.rank self.old.at self.old.state) }
-        requires held { IsHeld ⟦<SumMail as Mail>⟧.run ⟦<SumMail as Mail>⟧.name self.old.numbers
-            (label_in self.old.numbers self.old.rank self.old.at self.old.state) self.old.rank held.items }
-        requires ready { map ⟦<SumMail as Mail>⟧.name held.items ≡ awaited (tree_course self.old.numbers)
-            (label_in self.old.numbers self.old.rank self.old.at self.old.state) self.old.rank }
-        ensures next { OnOk result (IsPlaced self.new.numbers self.new.rank self.new.at self.new.state) }
-        ensures run { OnOk result (self.new.numbers ≡ self.old.numbers) }
-        ensures rank { OnOk result (self.new.rank ≡ self.old.rank) }
-        ensures place { OnOk result (place_of self.new.numbers self.new.rank self.new.at self.new.state
-            ≡ place_of self.old.numbers self.old.rank self.old.at self.old.state + 1) }
+        requires here { ⟦<Rounds as Program>⟧.stands self.old.rounds true }
+        requires going_on { ¬ IsOver (tree_course (⟦<Rounds as Program>⟧.run self.old.rounds)) (⟦<Rounds as Program>⟧.rank_of self.old.rounds) (⟦<Rounds as Program>⟧.place self.old.rounds) }
+        requires held { IsHeld ⟦<SumMail as Mail>⟧.run ⟦<SumMail as Mail>⟧.name (⟦<Rounds as Program>⟧.run self.old.rounds)
+            (label_at ((tree_course (⟦<Rounds as Program>⟧.run self.old.rounds)).labels (⟦<Rounds as Program>⟧.rank_of self.old.rounds)) (⟦<Rounds as Program>⟧.place self.old.rounds))
+            (⟦<Rounds as Program>⟧.rank_of self.old.rounds) held.items }
+        requires ready { map ⟦<SumMail as Mail>⟧.name held.items
+            ≡ awaited (tree_course (⟦<Rounds as Program>⟧.run self.old.rounds))
+            (label_at ((tree_course (⟦<Rounds as Program>⟧.run self.old.rounds)).labels (⟦<Rounds as Program>⟧.rank_of self.old.rounds)) (⟦<Rounds as Program>⟧.place self.old.rounds))
+            (⟦<Rounds as Program>⟧.rank_of self.old.rounds) }
+        ensures next { OnOk result (⟦<Rounds as Program>⟧.stands self.new.rounds false) }
+        ensures run { OnOk result (⟦<Rounds as Program>⟧.run self.new.rounds ≡ ⟦<Rounds as Program>⟧.run self.old.rounds) }
+        ensures rank { OnOk result (⟦<Rounds as Program>⟧.rank_of self.new.rounds ≡ ⟦<Rounds as Program>⟧.rank_of self.old.rounds) }
+        ensures place { OnOk result (⟦<Rounds as Program>⟧.place self.new.rounds ≡ ⟦<Rounds as Program>⟧.place self.old.rounds + 1) }
     {
-        match mem::replace(&mut self.state, State::Failed) {
-            State::Up(stage) => {
-                let number = finish_stage(alloc, stage, held)?;
-                self.go_up(alloc, self.at.round + 1, number)?;
-                Ok(())
-            }
-            State::Down(stage) => {
-                let number = finish_stage(alloc, stage, held)?;
-                self.go_down(alloc, self.at.round + 1, number)?;
-                Ok(())
-            }
-            State::Over(_) => Err(NoMemory),
-            State::Failed => Err(NoMemory),
-        }
+        self.rounds.finish(alloc, held)?;
+        Ok(())
     }
 
-    ghost on_course = { λ program _ _. tree_is_course program.numbers };
-}
-
-const NO_LABEL: Label = Label {
-    step: 0,
-    pass: 0,
-    phase: 0,
-    round: 0,
-};
-
-fn up_label(round: u32) -> Label
-    ensures { result ≡ wanted_up round }
-{
-    Label {
-        step: 0,
-        pass: 0,
-        phase: 5,
-        round,
-    }
-}
-
-fn down_label(round: u32) -> Label
-    ensures { result ≡ wanted_down round }
-{
-    Label {
-        step: 0,
-        pass: 0,
-        phase: 6,
-        round,
-    }
+    ghost on_course = { λ program _ _. tree_is_course (⟦<Rounds as Program>⟧.run program.rounds) };
 }

@@ -1,5 +1,5 @@
 -- The first patches of all ranks are what a fill starts with.
-use Rattle.std.proofs.Common.{◌≡◌, ℕ, zero, suc, refl, sym, ap, ◌∙◌, subst, length, Some, slice_get}
+use Rattle.std.proofs.Common.{◌≡◌, ℕ, zero, suc, refl, sym, ap, ◌∙◌, subst, inr, length, Some, slice_get}
 use Rattle.std.proofs.lemmas.List.{length-map}
 use Rattle.std.specs.Prelude.{List, [], ◌∷◌, map}
 use Rattle.std.specs.List.{All}
@@ -85,7 +85,7 @@ module _ (a : Area) (step : IVec) (ranks : ℕ) (width : IVec) (bound : ℕ) (fi
               fields = count_first bound fine_start widths (own rank level) mine its.1 ∙ number;
               widths = has_widths bound fine_start widths (own rank level) mine its.1;
               same_coarser = has_first bound coarse_start widths (own rank coarser) below coarse.1 (all_own_rooms coarser rank widths h.coarse_rooms);
-              coarse_fields = count_first bound coarse_start widths (own rank coarser) below coarse.1 ∙ number;
+              coarse_fields = inr (count_first bound coarse_start widths (own rank coarser) below coarse.1 ∙ number);
             };
       }
 

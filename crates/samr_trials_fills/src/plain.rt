@@ -136,14 +136,15 @@ fn right_field(look: &Plain, field: u64, patches: &[Patch]) -> Option<u64> {
 }
 
 /// How many cells the patches of both fields of all ranks have in all, where each has its value.
-pub(crate) fn right_fill(look: &Plain, outs: &[Vec<Listed<Patch>>]) -> Option<u64> {
+pub(crate) fn right_fill(look: &Plain, outs: &[Listed<Listed<Patch>>]) -> Option<u64> {
     let mut cells = 0u64;
     for out in outs {
-        if out.len() != 2 {
+        let fields = out.as_slice();
+        if fields.len() != 2 {
             return None;
         }
         for field in 0..2u8 {
-            if let Some(patches) = out.get(usize::from(field)) {
+            if let Some(patches) = fields.get(usize::from(field)) {
                 let more = right_field(look, u64::from(field), patches.as_slice())?;
                 cells = cells.saturating_add(more);
             }

@@ -23,9 +23,9 @@ fn fill_prepared<R: Refines, B: Bounds, U: Updates>(
     alloc: Global,
     ready: Prepared,
     strategies: &[Strategy<R, B, U>],
-) -> Result<Vec<Vec<Listed<Patch>>>, NoMemory>
+) -> Result<Vec<Listed<Listed<Patch>>>, NoMemory>
     requires { (w : Filling) × AreReady ready strategies.now w }
-    ensures { IfOk result (λ outs. (w : Filling) → AreReady ready strategies.now w → (length outs.items ≡ w.schedule.ranks) × AreResults (λ w rank out. out.items ≡ filled w rank) w outs.items) }
+    ensures { IfOk result (λ outs. (w : Filling) → AreReady ready strategies.now w → (length outs.items ≡ w.schedule.ranks) × AreResults (λ w rank out. out ≡ filled w rank) w outs.items) }
 {
     let plans = ready.plans;
     let own = ready.own;
@@ -49,7 +49,7 @@ fn fill_made<
     refine: M,
     boundary: N,
     update: O,
-) -> Result<Vec<Vec<Listed<Patch>>>, NoMemory>
+) -> Result<Vec<Listed<Listed<Patch>>>, NoMemory>
     requires ranges { All IsRules rules.now }
     requires ready { (w : Filling) × AreReady ready rules.now w }
     requires makes_refine { M.IsAlwaysCallable refine }
@@ -58,7 +58,7 @@ fn fill_made<
     requires refine { (r : RulesOf) (f : R) → IsRules r → M.post refine r f → KeepsRefine r (R.can_refine f) (R.refine_gives f) }
     requires boundary { (r : RulesOf) (f : B) → IsRules r → N.post boundary r f → KeepsBoundary r (B.can_bound f) (B.bound_gives f) }
     requires update { (r : RulesOf) (f : U) → IsRules r → O.post update r f → KeepsUpdate r (U.can_update f) (U.update_gives f) }
-    ensures { IfOk result (λ outs. (w : Filling) → AreReady ready rules.now w → (length outs.items ≡ w.schedule.ranks) × AreResults (λ w rank out. out.items ≡ filled w rank) w outs.items) }
+    ensures { IfOk result (λ outs. (w : Filling) → AreReady ready rules.now w → (length outs.items ≡ w.schedule.ranks) × AreResults (λ w rank out. out ≡ filled w rank) w outs.items) }
 {
     let list = strategies(alloc, rules, refine, boundary, update)?;
     let outs = fill_prepared(alloc, ready, list.as_slice())?;
@@ -74,10 +74,10 @@ pub fn fill(
     alloc: Global,
     ready: Prepared,
     rules: &[Rules],
-) -> Result<Vec<Vec<Listed<Patch>>>, NoMemory>
+) -> Result<Vec<Listed<Listed<Patch>>>, NoMemory>
     requires ranges { All IsRules rules.now }
     requires ready { (w : Filling) × AreReady ready rules.now w }
-    ensures { IfOk result (λ outs. (w : Filling) → AreReady ready rules.now w → (length outs.items ≡ w.schedule.ranks) × AreResults (λ w rank out. out.items ≡ filled w rank) w outs.items) }
+    ensures { IfOk result (λ outs. (w : Filling) → AreReady ready rules.now w → (length outs.items ≡ w.schedule.ranks) × AreResults (λ w rank out. out ≡ filled w rank) w outs.items) }
 {
     let outs = fill_made(
         alloc,

@@ -1,5 +1,5 @@
 -- In levels of small boxes all overlaps have room for what a cover needs.
-use Rattle.std.proofs.Common.{ℕ, sym, subst, map}
+use Rattle.std.proofs.Common.{◌≡◌, ℕ, sym, ap, subst, arith, map}
 use Rattle.std.specs.Prelude.{pos, List}
 use Rattle.std.specs.List.{All, range_with_len}
 use Rattle.samr_box.specs.declared.vector.IVec.{IVec}
@@ -8,7 +8,7 @@ use Rattle.samr_box.specs.Space.{Space, IsSpace, finer}
 use Rattle.samr_box.specs.Lists.{Member}
 use Rattle.samr_box.proofs.Members.{All-from_members, Member-from_map}
 use Rattle.samr_level.specs.declared.parts.Pair.{Pair}
-use Rattle.samr_level.specs.Refs.{Owned}
+use Rattle.samr_level.specs.Refs.{Owned, Link}
 use Rattle.samr_level.specs.Overlaps.{scale, true_overlaps}
 use Rattle.samr_level.specs.Pairs.{pair}
 use Rattle.samr_level.proofs.Overlapping.{Member-from_of_rank, Member-from_overlaps, IsShift-member}

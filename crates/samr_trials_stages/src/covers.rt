@@ -1,7 +1,6 @@
 //! Covers on all ranks: of three levels and across a border by hand, and of drawn levels by the words of their definition.
 
-ghost use Rattle.std.specs.Prelude.{◌≡◌, ◌<◌, ℕ, pos, false, IsTrue, IfOk, IfSome, Some, Vec, length, slice_get};
-ghost use Rattle.std.specs.Global.{Global};
+ghost use Rattle.std.specs.Prelude.{◌≡◌, ◌<◌, ℕ, pos, false, IsTrue, IfOk, IfSome, Some, List, length, slice_get};
 ghost use Rattle.std.specs.List.{All};
 ghost use Rattle.samr_box.specs.Vector.{alike, times, AtMost, InRange, IsRatio};
 ghost use Rattle.samr_box.specs.Corners.{IsBox};
@@ -16,7 +15,7 @@ use crate::levels::{
     has_space, level_of, level_part, owned, pairs_between, ratio,
 };
 use crate::tags::has_tag;
-use samr_box::{Domain, IBox, IVec, Ratio, contains};
+use samr_box::{Domain, IBox, IVec, Listed, Ratio, contains};
 use samr_level::BoxRef;
 use samr_sign::TagField;
 use samr_tags::cover_all;
@@ -82,20 +81,20 @@ fn product(a: Ratio, b: Ratio, c: Ratio) -> Option<Ratio>
 }
 
 /// Fields with no tag on some boxes.
-fn empty_fields(alloc: Global, boxes: &[IBox]) -> Result<Vec<TagField>, NoMemory>
-    ensures { IfOk result (λ v. AreTags boxes.now (λ x. false) v.items) }
+fn empty_fields(alloc: Global, boxes: &[IBox]) -> Result<Listed<TagField>, NoMemory>
+    ensures { IfOk result (λ v. AreTags boxes.now (λ x. false) v) }
 {
     let mut fields = Vec::new(alloc);
     for bx in boxes {
         fields.push(TagField::new(alloc, *bx)?)?;
     }
-    Ok(fields)
+    Ok(Listed::from_vec(fields))
 }
 
 /// Fields with no tag on the boxes of all ranks.
-fn no_tags(alloc: Global, ranks: u16, level: &[BoxRef]) -> Result<Vec<Vec<TagField>>, NoMemory>
+fn no_tags(alloc: Global, ranks: u16, level: &[BoxRef]) -> Result<Vec<Listed<TagField>>, NoMemory>
     ensures length { IfOk result (λ v. length v.items ≡ ranks) }
-    ensures each { IfOk result (λ v. (rank : ℕ) (own : Vec Field Global) → slice_get v.items rank ≡ Some own → AreTags (own_boxes rank level.now) (λ x. false) own.items) }
+    ensures each { IfOk result (λ v. (rank : ℕ) (own : List Field) → slice_get v.items rank ≡ Some own → AreTags (own_boxes rank level.now) (λ x. false) own) }
 {
     let mut all = Vec::new(alloc);
     'each: for rank in 0..ranks {
@@ -117,7 +116,7 @@ fn covered(
     nest: IVec,
     upper: Ratio,
     lower: Ratio,
-) -> Result<Option<Vec<Vec<TagField>>>, NoMemory> {
+) -> Result<Option<Vec<Listed<TagField>>>, NoMemory> {
     let Some(ratio) = product(level.ratio, lower, upper) else {
         return Ok(None);
     };
@@ -230,11 +229,11 @@ fn the_cover_of_three_levels(rt: HostRuntime) -> Result<(), Fail> {
     let made = covered(alloc, 1, &d, &level, fine, width, nest, two, two)?;
     let fields = made.ok_or("not fit")?;
     assert_eq!(rt; fields.len(), 1);
-    assert_eq!(rt; fields[0].len(), 1);
+    assert_eq!(rt; fields[0].as_slice().len(), 1);
     for j in 0..16i64 {
         for i in 0..16i64 {
             let here = i >= 6 && i <= 8 && j >= 6 && j <= 8;
-            assert!(rt; has_tag(&fields[0][0], IVec::new(i, j, 0)) == here);
+            assert!(rt; has_tag(&fields[0].as_slice()[0], IVec::new(i, j, 0)) == here);
         }
     }
     Ok(())
@@ -254,12 +253,14 @@ fn the_cover_across_a_periodic_border(rt: HostRuntime) -> Result<(), Fail> {
     let made = covered(alloc, 2, &d, &level, fine, one, one, two, two)?;
     let fields = made.ok_or("not fit")?;
     assert_eq!(rt; fields.len(), 2);
-    assert_eq!(rt; fields[0].len(), 1);
-    assert_eq!(rt; fields[1].len(), 1);
+    assert_eq!(rt; fields[0].as_slice().len(), 1);
+    assert_eq!(rt; fields[1].as_slice().len(), 1);
     for j in 0..4i64 {
         for i in 0..4i64 {
-            assert!(rt; has_tag(&fields[0][0], IVec::new(i, j, 0)) == (j < 3 && i < 2));
-            assert!(rt; has_tag(&fields[1][0], IVec::new(i + 4, j, 0)) == (j < 3 && i == 3));
+            assert!(rt; has_tag(&fields[0].as_slice()[0], IVec::new(i, j, 0)) == (j < 3 && i < 2));
+            assert!(rt;
+                has_tag(&fields[1].as_slice()[0], IVec::new(i + 4, j, 0)) == (j < 3 && i == 3)
+            );
         }
     }
     Ok(())
@@ -296,6 +297,7 @@ fn covers_as_plain(rt: &impl Abort, alloc: Global, ranks: u16) -> Result<bool, N
     let fine = shown.boxes.as_slice();
     Ok(
         fields.iter().all(|own| own
+            .as_slice()
             .iter()
             .all(|field| has_cover(field, fine, nest, upper, lower))),
     )

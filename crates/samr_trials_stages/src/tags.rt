@@ -8,7 +8,7 @@ use crate::levels::{
     ALONG_I, ALONG_I_AND_J, NOTHING, Side, all_fit, are_comparable, blocks, domain, drawn,
     level_of, owned, pairs_between, parts_of, ratio,
 };
-use samr_box::{Domain, IVec, Ratio, contains, wrap};
+use samr_box::{Domain, IVec, Listed, Ratio, contains, wrap};
 use samr_sign::TagField;
 use samr_tags::{Given, buffer_all};
 use samr_trials_levels::is_width;
@@ -56,7 +56,7 @@ fn buffered(
     spots: &Spots,
     width: IVec,
     buffer: IVec,
-) -> Result<Option<Vec<Vec<TagField>>>, NoMemory> {
+) -> Result<Option<Vec<Listed<TagField>>>, NoMemory> {
     if !is_width(width) {
         return Ok(None);
     }
@@ -105,8 +105,8 @@ fn six_cells_across_a_periodic_border(rt: HostRuntime) -> Result<(), Fail> {
     let made = buffered(alloc, 1, &d, &level, &spots, buffer, buffer)?;
     let fields = made.expect(&rt, "fit");
     assert!(rt; fields.len() == 1);
-    assert!(rt; fields[0].len() == 1);
-    let field = &fields[0][0];
+    assert!(rt; fields[0].as_slice().len() == 1);
+    let field = &fields[0].as_slice()[0];
     for j in 0..4i64 {
         for i in 0..4i64 {
             let here = j < 2 && i != 2;
@@ -143,11 +143,11 @@ fn same_as_plain(
     level: &Side,
     spots: &Spots,
     buffer: IVec,
-    fields: &[Vec<TagField>],
+    fields: &[Listed<TagField>],
 ) -> bool {
     let mut tagged = 0u32;
     for rank in fields {
-        for field in rank {
+        for field in rank.as_slice() {
             for j in 0..32i64 {
                 for i in 0..32i64 {
                     let x = IVec::new(i, j, 0);

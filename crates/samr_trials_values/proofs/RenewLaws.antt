@@ -69,7 +69,7 @@ module _ (frame : Space) (step : IVec) (ranks : ℕ) (width : IVec) (bound : ℕ
               has = record {
                 same_rules = refl;
                 same_values = has_first bound fine_start widths (own r olds) q old.1 (all_own_rooms olds r widths h.old_rooms);
-                fields = count_first bound fine_start widths (own r olds) q old.1 ∙ number;
+                fields = inr (count_first bound fine_start widths (own r olds) q old.1 ∙ number);
                 coarse_values = has_first bound coarse_start widths (own r coarser) v coarse.1 (all_own_rooms coarser r widths h.coarse_rooms);
                 coarse_fields = count_first bound coarse_start widths (own r coarser) v coarse.1 ∙ number;
               };

@@ -31,11 +31,11 @@ fn renewed_over<R: Refines, B: Bounds, U: Updates>(
     coarser: &[BoxRef],
     rules: &[Rules],
     strategies: &[Strategy<R, B, U>],
-) -> Result<Vec<Vec<Listed<Patch>>>, NoMemory>
+) -> Result<Vec<Listed<Listed<Patch>>>, NoMemory>
     requires rules { rules.now ≡ strategies.now }
     requires can { CanRenewOver frame.now step ranks width bound rules.now news.now olds.now coarser.now }
     ensures count { IfOk result (λ outs. length outs.items ≡ ranks) }
-    ensures values { IfOk result (λ outs. AreResults (λ w rank out. out.items ≡ renewed w rank) (renewing_of frame.now step ranks width bound rules.now news.now olds.now coarser.now) outs.items) }
+    ensures values { IfOk result (λ outs. AreResults (λ w rank out. out ≡ renewed w rank) (renewing_of frame.now step ranks width bound rules.now news.now olds.now coarser.now) outs.items) }
 {
     let one = same_ratio();
     let widths = widths_of(alloc, rules)?;
@@ -73,12 +73,12 @@ fn renewed_blocks<R: Refines, B: Bounds, U: Updates>(
     bound: u32,
     rules: &[Rules],
     strategies: &[Strategy<R, B, U>],
-) -> Result<Vec<Vec<Listed<Patch>>>, NoMemory>
+) -> Result<Vec<Listed<Listed<Patch>>>, NoMemory>
     requires rules { rules.now ≡ strategies.now }
     requires fine { fine.now ≡ finer_area region.now step }
     requires can { CanRefine region.now block step fine_block ranks width bound rules.now }
     ensures count { IfOk result (λ outs. length outs.items ≡ ranks) }
-    ensures values { IfOk result (λ outs. AreResults (λ w rank out. out.items ≡ renewed w rank) (renewing region.now block step fine_block news olds ranks width bound rules.now) outs.items) }
+    ensures values { IfOk result (λ outs. AreResults (λ w rank out. out ≡ renewed w rank) (renewing region.now block step fine_block news olds ranks width bound rules.now) outs.items) }
 {
     let coarser = whole_level0(alloc, region, block, ranks)?;
     let over = whole_level0(alloc, fine, fine_block, ranks)?;
@@ -123,9 +123,9 @@ pub fn renew<R: Refines, B: Bounds, U: Updates>(
     width: IVec,
     bound: u32,
     strategies: &[Strategy<R, B, U>],
-) -> Result<Option<Vec<Vec<Listed<Patch>>>>, NoMemory>
+) -> Result<Option<Vec<Listed<Listed<Patch>>>>, NoMemory>
     ensures { IfOk result (λ made. IfSome made (λ outs. (length outs.items ≡ ranks)
-        × AreResults (λ w rank out. out.items ≡ renewed w rank) (renewing (record { frame = frame; parts = parts.now }) block step fine_block news olds ranks width bound strategies.now) outs.items)) }
+        × AreResults (λ w rank out. out ≡ renewed w rank) (renewing (record { frame = frame; parts = parts.now }) block step fine_block news olds ranks width bound strategies.now) outs.items)) }
 {
     let list = rules_of(alloc, strategies)?;
     let rules = list.as_slice();

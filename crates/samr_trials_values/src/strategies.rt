@@ -40,7 +40,7 @@ fn renew_made<
     refine: M,
     boundary: N,
     update: O,
-) -> Result<Option<Vec<Vec<Listed<Patch>>>>, NoMemory>
+) -> Result<Option<Vec<Listed<Listed<Patch>>>>, NoMemory>
     requires ranges { All IsRules rules.now }
     requires makes_refine { M.IsAlwaysCallable refine }
     requires makes_boundary { N.IsAlwaysCallable boundary }
@@ -49,7 +49,7 @@ fn renew_made<
     requires boundary { (r : RulesOf) (f : B) → IsRules r → N.post boundary r f → KeepsBoundary r (B.can_bound f) (B.bound_gives f) }
     requires update { (r : RulesOf) (f : U) → IsRules r → O.post update r f → KeepsUpdate r (U.can_update f) (U.update_gives f) }
     ensures { IfOk result (λ made. IfSome made (λ outs. (length outs.items ≡ ranks)
-        × AreResults (λ w rank out. out.items ≡ renewed w rank) (renewing (record { frame = frame; parts = parts.now }) block step fine_block news olds ranks width bound rules.now) outs.items)) }
+        × AreResults (λ w rank out. out ≡ renewed w rank) (renewing (record { frame = frame; parts = parts.now }) block step fine_block news olds ranks width bound rules.now) outs.items)) }
 {
     let list = strategies(alloc, rules, refine, boundary, update)?;
     let made = renew(
@@ -88,10 +88,10 @@ pub fn renew_by_rules(
     width: IVec,
     bound: u32,
     rules: &[Rules],
-) -> Result<Option<Vec<Vec<Listed<Patch>>>>, NoMemory>
+) -> Result<Option<Vec<Listed<Listed<Patch>>>>, NoMemory>
     requires { All IsRules rules.now }
     ensures { IfOk result (λ made. IfSome made (λ outs. (length outs.items ≡ ranks)
-        × AreResults (λ w rank out. out.items ≡ renewed w rank) (renewing (record { frame = frame; parts = parts.now }) block step fine_block news olds ranks width bound rules.now) outs.items)) }
+        × AreResults (λ w rank out. out ≡ renewed w rank) (renewing (record { frame = frame; parts = parts.now }) block step fine_block news olds ranks width bound rules.now) outs.items)) }
 {
     let made = renew_made(
         alloc,

@@ -247,7 +247,7 @@ fn plane(rt: &impl Abort, i: i64, j: i64, last_i: i64, last_j: i64) -> IBox {
 }
 
 /// How many cells the patches of all ranks have, where each is right.
-fn right_run(look: &Plain, run: Run, all: &[Vec<Listed<Patch>>]) -> Option<u64> {
+fn right_run(look: &Plain, run: Run, all: &[Listed<Listed<Patch>>]) -> Option<u64> {
     let mut cells = 0u64;
     for fields in all {
         cells = cells.saturating_add(right_fields(look, run, fields.as_slice(), 2)?);

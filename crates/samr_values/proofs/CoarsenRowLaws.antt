@@ -17,7 +17,9 @@ use Rattle.samr_box.proofs.Vectors.{AtMost-refl}
 use Rattle.samr_stage.specs.declared.stage.Held.{Held}
 use Rattle.samr_stage.specs.Row.{heard, column}
 use Rattle.samr_level.specs.Refs.{Owned, Link, link, turned}
+use Rattle.samr_level.specs.RefOrders.{in_order}
 use Rattle.samr_level.specs.Overlaps.{scale, true_overlaps, IsTrueOverlap}
+use Rattle.samr_level.proofs.Sorting.{Member-in_order, Member-from_in_order}
 use Rattle.samr_level.proofs.Overlapping.{Member-overlaps, Member-from_overlaps, Member-of_rank, Member-from_of_rank, zero_shift}
 use Rattle.samr_data.specs.Values.{value_in}
 use Rattle.samr_data.proofs.Lists.{length-listed, value_in-listed}
@@ -27,10 +29,12 @@ use Rattle.samr_peers.specs.Peers.{peer_row, AreTransposes}
 use Rattle.samr_peers.proofs.PeerRows.{heard_in, heard_out}
 use Rattle.samr_peers.proofs.PairTurns.{pair_turns}
 use Rattle.samr_data.specs.declared.parcel.Parcel.{Parcel}
+use Rattle.samr_data.specs.ParcelOrder.{parcel_cmp}
+use Rattle.samr_data.proofs.ParcelOrderLaws.{parcel_total, same_from_parcel_cmp}
 use Rattle.samr_values.specs.Parcels.{IsParcel, is_for, same_box, has_fine, is_told, Tell}
 use Rattle.samr_values.specs.ValuesRow.{leads_to, parcel_of}
 use Rattle.samr_values.specs.Coarsen.{Coarsening, IsCoarsening, fields, merged, is_under, downs, ups}
-use Rattle.samr_values.specs.CoarsenRow.{merged_parcel, coarse_parcels}
+use Rattle.samr_values.specs.CoarsenRow.{merged_parcel, all_merged, coarse_parcels}
 use Rattle.samr_values.specs.Merging.{merges, merge_of, merged_along, merged_to, parcels_with}
 use Rattle.samr_values.proofs.Written.{for_is}
 use Rattle.samr_values.proofs.Merges.{coarsened_refined}
@@ -65,14 +69,16 @@ module _ (w : Coarsening) where
   pub sent_is : (sender to : ℕ) → merged_to (merges w.step w.rules w.moduli) w.fine_values (downs w sender) to ≡ coarse_parcels w sender to
   unfolding merged_to coarse_parcels
   sent_is sender to =
-      flat_map-map (λ m. filter_map (λ e. merged_along m (w.fine_values m.field) e) (filter (λ e. leads_to to e) (downs w sender)))
-      (λ (f : ℕ × (CoarsenRule × ℕ)). merge_of w.step f) (fields w)
+      ap (in_order parcel_cmp)
+      (flat_map-map (λ m. filter_map (λ e. merged_along m (w.fine_values m.field) e) (filter (λ e. leads_to to e) (downs w sender)))
+      (λ (f : ℕ × (CoarsenRule × ℕ)). merge_of w.step f) (fields w))
 
   pub from_parcels : (sender to : ℕ) (q : Parcel) → Member q (coarse_parcels w sender to) → IsFrom w sender to q
   unfolding coarse_parcels
   from_parcels sender to q m =
       let edges = filter (λ e. leads_to to e) (downs w sender) in
-      let r = Member-from_flat_map (λ f. filter_map (λ e. merged_parcel w f e) edges) q (fields w) m in
+      let all = Member-from_in_order parcel_total q (all_merged w sender to) m in
+      let r = Member-from_flat_map (λ f. filter_map (λ e. merged_parcel w f e) edges) q (fields w) all in
       let s = Member-from_filter_map (λ e. merged_parcel w r.0 e) q edges r.2 in
       let g = Member-from_filter (λ e. leads_to to e) s.0 (downs w sender) s.1 in
       let p = mapped (parcel_of s.0 false r.0.0 (merged w r.0)) (met (coarsened s.0.base.bx w.step) s.0.head.bx) q s.2 in
@@ -84,9 +90,10 @@ module _ (w : Coarsening) where
   parcels_have sender to f e region mf me t is =
       let edges = filter (λ e. leads_to to e) (downs w sender) in
       let q = parcel_of e false f.0 (merged w f) region in
-      Member-flat_map (λ f. filter_map (λ e. merged_parcel w f e) edges) q f (fields w) mf
+      Member-in_order parcel_total same_from_parcel_cmp q (all_merged w sender to)
+      (Member-flat_map (λ f. filter_map (λ e. merged_parcel w f e) edges) q f (fields w) mf
       (Member-filter_map (λ e. merged_parcel w f e) q e edges (Member-filter (λ e. leads_to to e) e (downs w sender) me t)
-      (ap (λ (o : Option Corners). option_map (parcel_of e false f.0 (merged w f)) o) is))
+      (ap (λ (o : Option Corners). option_map (parcel_of e false f.0 (merged w f)) o) is)))
 
   pub edge_facts : (sender : ℕ) (e : Link) → Member e (downs w sender) → IsTrueOverlap (scale w.frame w.width (times w.ratio w.step) w.ratio) w.fine w.coarser e
   edge_facts sender e m =

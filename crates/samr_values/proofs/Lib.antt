@@ -14,6 +14,7 @@ pub mod MergedTo
 pub mod CoarsenStart
 pub mod CoarsenOnAllLaws
 pub mod ValuesStart
+pub mod NoOldLevel
 pub mod ValuesStage
 pub mod ValuesOnAllLaws
 pub mod ValuesRowLaws

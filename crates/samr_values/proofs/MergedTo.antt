@@ -7,8 +7,10 @@ use Rattle.samr_box.specs.declared.vector.IVec.{IVec}
 use Rattle.samr_box.specs.Lists.{Member}
 use Rattle.samr_box.proofs.Members.{Member-from_filter}
 use Rattle.samr_level.specs.Refs.{Link}
+use Rattle.samr_level.specs.RefOrders.{in_order}
 use Rattle.samr_data.specs.Grids.{Grid}
 use Rattle.samr_data.specs.declared.parcel.Parcel.{Parcel}
+use Rattle.samr_data.specs.ParcelOrder.{parcel_cmp}
 use Rattle.samr_values.specs.declared.merging.Merge.{Merge}
 use Rattle.samr_values.specs.Patches.{HasField, HaveFields}
 use Rattle.samr_values.specs.ValuesRow.{leads_to}
@@ -35,8 +37,8 @@ module _ (list : List Merge) (edges leading : List Link) (fine : List (List Grid
     refinements = λ m e mm me. can.refinements m e mm (leads e me);
   }
 
-pub merged_to_is : (list : List Merge) (values : ℕ → IVec → ℕ) (edges leading : List Link) (to : ℕ) (out : List Parcel) → leading ≡ filter (λ e. leads_to to e) edges
-    → out ≡ flat_map (λ m. filter_map (λ e. merged_along m (values m.field) e) leading) list → out ≡ merged_to list values edges to
+pub merged_to_is : (list : List Merge) (values : ℕ → IVec → ℕ) (edges leading : List Link) (to : ℕ) (all out : List Parcel) → leading ≡ filter (λ e. leads_to to e) edges
+    → all ≡ flat_map (λ m. filter_map (λ e. merged_along m (values m.field) e) leading) list → out ≡ in_order parcel_cmp all → out ≡ merged_to list values edges to
 unfolding merged_to
-merged_to_is list values edges leading to out is made =
-    made ∙ ap (λ (l : List Link). flat_map (λ m. filter_map (λ e. merged_along m (values m.field) e) l) list) is
+merged_to_is list values edges leading to all out is made sorted =
+    sorted ∙ ap (in_order parcel_cmp) (made ∙ ap (λ (l : List Link). flat_map (λ m. filter_map (λ e. merged_along m (values m.field) e) l) list) is)

@@ -1,7 +1,7 @@
 -- What a rank has before the stage `Values`, among what all have.
-use Rattle.std.proofs.Common.{◌≡◌, ℕ, ◌<◌, length, get_or, sym, ap, ◌∙◌, subst, arith}
+use Rattle.std.proofs.Common.{◌≡◌, ℕ, ◌<◌, length, get_or, sym, ap, ◌∙◌, subst, inl, inr, arith}
 use Rattle.std.proofs.lemmas.Option.{slice_get-get_or}
-use Rattle.std.specs.Prelude.{List, Option, Some, None, slice_get}
+use Rattle.std.specs.Prelude.{List, [], Option, Some, None, slice_get}
 use Rattle.std.specs.List.Sorted.{IsStrictlySortedBy}
 use Rattle.samr_box.specs.declared.vector.IVec.{IVec}
 use Rattle.samr_box.specs.Corners.{Corners}
@@ -16,7 +16,7 @@ use Rattle.samr_level.specs.Overlaps.{Scale, scale, true_overlaps, of_rank}
 use Rattle.samr_level.proofs.Overlapping.{Member-from_overlaps, Member-from_of_rank}
 use Rattle.samr_data.specs.Grids.{Grid}
 use Rattle.samr_ops.specs.declared.rules.Rules.{Rules}
-use Rattle.samr_values.specs.Patches.{HasValues, AreBased}
+use Rattle.samr_values.specs.Patches.{HasValues, AreBased, HaveNumber}
 use Rattle.samr_values.specs.Values.{Renewing, old_ups}
 use Rattle.samr_values.specs.ValuesParts.{KnowsOld, HasOld}
 use Rattle.samr_values.specs.OldLevelEdges.{back_edges}
@@ -48,8 +48,14 @@ back_is None w r none =
 -- what a rank has meets what the stage asks
 module _ (rank : ℕ) (news : List Corners) (same : Option Pair) (coarser : Pair) (step : IVec) (patches coarse : List (List Grid)) (rules : List Rules) (w : Renewing) (r : ℕ)
     (h : HasOld rank news same coarser step patches coarse rules w r) where
-  pub all_fields : length patches ≡ length rules
-  all_fields = h.has.fields ∙ sym (ap (λ (l : List Rules). length l) h.has.same_rules)
+  pub all_fields : HaveNumber (back_edges same) patches (length rules)
+  all_fields = elim h.has.fields [
+    | inl none ↦
+        let n = scale w.frame w.width w.ratio w.ratio in
+        let edges : old_ups w r ≡ [] = ap (λ (l : List Owned). of_rank r (true_overlaps n l w.news)) none.0 ∙ none_from n r w.news in
+        inl (back_is same w r h.same_old ∙ edges, none.1)
+    | inr all ↦ inr (all ∙ sym (ap (λ (l : List Rules). length l) h.has.same_rules))
+  ]
 
   pub all_coarse_fields : length coarse ≡ length rules
   all_coarse_fields = h.has.coarse_fields ∙ sym (ap (λ (l : List Rules). length l) h.has.same_rules)

@@ -12,13 +12,15 @@ use Rattle.samr_stage.specs.declared.stage.Held.{Held}
 use Rattle.samr_stage.specs.Row.{told, heard, column}
 use Rattle.samr_level.specs.Refs.{Link, turned}
 use Rattle.samr_level.specs.Overlaps.{scale, true_overlaps, IsTrueOverlap}
+use Rattle.samr_level.proofs.Sorting.{Member-in_order, Member-from_in_order}
 use Rattle.samr_level.proofs.Overlapping.{Member-from_overlaps, Member-from_of_rank}
 use Rattle.samr_peers.specs.Peers.{other_owners, peer_row, TurnsInto, AreTransposes}
 use Rattle.samr_peers.proofs.PeerRows.{letters_are, count_is, Member-range, Member-from_range}
 use Rattle.samr_peers.proofs.PairTurns.{pair_turns}
 use Rattle.samr_data.specs.declared.parcel.Parcel.{Parcel}
+use Rattle.samr_data.proofs.ParcelOrderLaws.{parcel_total, same_from_parcel_cmp}
 use Rattle.samr_values.specs.Values.{Renewing, IsRenewing, old_ups, coarse_ups, to_olds, downs}
-use Rattle.samr_values.specs.ValuesRow.{leads_to, parcel_of, old_parcel, coarse_parcel, parcels, sends, hears, values_row}
+use Rattle.samr_values.specs.ValuesRow.{leads_to, parcel_of, old_parcel, coarse_parcel, packed_by, parcels, sends, hears, values_row}
 use Rattle.samr_values.proofs.Under.{mapped}
 
 pub row_is : (w : Renewing) → values_row w ≡ peer_row w.ranks (sends w) (parcels w)
@@ -109,10 +111,14 @@ abbrev coarse_of : Renewing → ℕ → ℕ → ℕ → List Parcel
 coarse_of w sender to f = filter_map (λ e. coarse_parcel f w.step (w.coarse_values f) e) (filter (λ e. leads_to to e) (coarse_ups w sender))
 
 module _ (w : Renewing) (sender to : ℕ) where
+  abbrev all_packed : List Parcel
+  all_packed = packed_by w.step w.values w.coarse_values (old_ups w sender) (coarse_ups w sender) (length w.rules) to
+
   pub from_parcels : (q : Parcel) → Member q (parcels w sender to) → IsOld w sender to q ⊎ IsCoarse w sender to q
   unfolding parcels
   from_parcels q m =
-      let s = Member-from_flat_map (λ f. olds_of w sender to f ++ coarse_of w sender to f) q (range_with_len 0 (length w.rules)) m in
+      let all = Member-from_in_order parcel_total q all_packed m in
+      let s = Member-from_flat_map (λ f. olds_of w sender to f ++ coarse_of w sender to f) q (range_with_len 0 (length w.rules)) all in
       let range = (Member-from_range (length w.rules) 0 s.0 s.1).1 in
       let below : s.0 < length w.rules = omega (arith, range) in
       elim (Member-from_append q (olds_of w sender to s.0) (coarse_of w sender to s.0) s.2) [
@@ -125,20 +131,22 @@ module _ (w : Renewing) (sender to : ℕ) where
   unfolding parcels
   old_in f e region below m leads is =
       let q = parcel_of e false f (w.values f) region in
-      Member-flat_map (λ f. olds_of w sender to f ++ coarse_of w sender to f) q f (range_with_len 0 (length w.rules))
+      Member-in_order parcel_total same_from_parcel_cmp q all_packed
+      (Member-flat_map (λ f. olds_of w sender to f ++ coarse_of w sender to f) q f (range_with_len 0 (length w.rules))
       (Member-range (length w.rules) 0 f (omega arith) (omega (arith, below)))
       (Member-append_left q (olds_of w sender to f) (coarse_of w sender to f)
-      (along_has (old_ups w sender) (λ e. old_region e) false w.values (length w.rules) to f e region m leads is))
+      (along_has (old_ups w sender) (λ e. old_region e) false w.values (length w.rules) to f e region m leads is)))
 
   pub coarse_in : (f : ℕ) (e : Link) (region : Corners) → f < length w.rules → Member e (coarse_ups w sender) → leads_to to e ≡ true
       → coarse_region w.step e ≡ Some region → Member (parcel_of e true f (w.coarse_values f) region) (parcels w sender to)
   unfolding parcels
   coarse_in f e region below m leads is =
       let q = parcel_of e true f (w.coarse_values f) region in
-      Member-flat_map (λ f. olds_of w sender to f ++ coarse_of w sender to f) q f (range_with_len 0 (length w.rules))
+      Member-in_order parcel_total same_from_parcel_cmp q all_packed
+      (Member-flat_map (λ f. olds_of w sender to f ++ coarse_of w sender to f) q f (range_with_len 0 (length w.rules))
       (Member-range (length w.rules) 0 f (omega arith) (omega (arith, below)))
       (Member-append_right q (olds_of w sender to f) (coarse_of w sender to f)
-      (along_has (coarse_ups w sender) (λ e. coarse_region w.step e) true w.coarse_values (length w.rules) to f e region m leads is))
+      (along_has (coarse_ups w sender) (λ e. coarse_region w.step e) true w.coarse_values (length w.rules) to f e region m leads is)))
 
   -- the edges are true overlaps
   pub old_edge : (e : Link) → Member e (old_ups w sender) → IsTrueOverlap (scale w.frame w.width w.ratio w.ratio) w.olds w.news e

@@ -105,13 +105,13 @@ ArePacked step old_back coarse_back patches coarse addressees letters =
     → letters ≡ map {B = ℕ × List Parcel} (λ to. (to, parcels_by step values coarse_values old_back coarse_back (length patches) to)) addressees
 
 module _ (rank : ℕ) (news : List Corners) (olds old_back coarser coarse_back : List Link) (step : IVec) (patches coarse : List (List Grid)) (rules : List Rules) (w : Renewing) (r : ℕ)
-    (h : HasEdges rank news olds old_back coarser coarse_back step patches coarse rules w r) where
+    (h : HasEdges rank news olds old_back coarser coarse_back step patches coarse rules w r) (count : length patches ≡ length rules) where
   body_is : (to : ℕ) → parcels_by step w.values w.coarse_values old_back coarse_back (length patches) to ≡ parcels w r to
   body_is to =
       ap (λ (s : IVec). parcels_by s w.values w.coarse_values old_back coarse_back (length patches) to) h.same_step
       ∙ ap (λ (l : List Link). parcels_by w.step w.values w.coarse_values l coarse_back (length patches) to) h.same_old_back
       ∙ ap (λ (l : List Link). parcels_by w.step w.values w.coarse_values (old_ups w r) l (length patches) to) h.same_coarse_back
-      ∙ ap (λ (n : ℕ). parcels_by w.step w.values w.coarse_values (old_ups w r) (coarse_ups w r) n to) h.has.fields
+      ∙ ap (λ (n : ℕ). parcels_by w.step w.values w.coarse_values (old_ups w r) (coarse_ups w r) n to) (count ∙ ap (λ (l : List Rules). length l) h.has.same_rules)
       ∙ parcels_are w r to
 
   sent_are : (sent : List Link) → sent ≡ old_back ++ coarse_back → sent ≡ sends w r

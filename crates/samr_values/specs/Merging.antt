@@ -9,12 +9,14 @@ use Rattle.samr_box.specs.Lists.{Member}
 use Rattle.samr_stage.specs.declared.stage.Held.{Held}
 use Rattle.samr_level.specs.declared.parts.Pair.{Pair}
 use Rattle.samr_level.specs.Refs.{Link}
+use Rattle.samr_level.specs.RefOrders.{in_order}
 use Rattle.samr_data.specs.Places.{one_cell}
 use Rattle.samr_data.specs.Grids.{Grid}
 use Rattle.samr_data.specs.Values.{listed}
 use Rattle.samr_ops.specs.declared.rules.CoarsenRule.{CoarsenRule}
 use Rattle.samr_ops.specs.Rules.{coarsened_value}
 use Rattle.samr_data.specs.declared.parcel.Parcel.{Parcel}
+use Rattle.samr_data.specs.ParcelOrder.{parcel_cmp}
 use Rattle.samr_values.specs.declared.merging.Merge.{Merge}
 use Rattle.samr_values.specs.Patches.{AreBased}
 use Rattle.samr_values.specs.ValuesRow.{leads_to, parcel_of}
@@ -28,9 +30,10 @@ merged_by m v x = coarsened_value m.rule m.modulus (listed (refined (one_cell x)
 abbrev pub merged_along : Merge → (IVec → ℕ) → Link → Option Parcel
 merged_along m v e = option_map (parcel_of e false m.field (merged_by m v)) (met (coarsened e.base.bx m.step) e.head.bx)
 
--- those for the heads that a rank owns, field by field
+-- those for the heads that a rank owns, in order
 unfoldable pub merged_to : List Merge → (ℕ → IVec → ℕ) → List Link → ℕ → List Parcel
-merged_to merges v edges to = flat_map (λ m. filter_map (λ e. merged_along m (v m.field) e) (filter (λ e. leads_to to e) edges)) merges
+merged_to merges v edges to =
+    in_order parcel_cmp (flat_map (λ m. filter_map (λ e. merged_along m (v m.field) e) (filter (λ e. leads_to to e) edges)) merges)
 
 -- how each field is merged
 abbrev pub merge_of : IVec → ℕ × (CoarsenRule × ℕ) → Merge

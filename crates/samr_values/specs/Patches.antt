@@ -1,5 +1,5 @@
 -- The patches of a rank's boxes of a level, field by field and box by box.
-use Rattle.std.specs.Prelude.{◌≡◌, ℕ, Bool, cond, List, map, Some, slice_get}
+use Rattle.std.specs.Prelude.{◌≡◌, ◌⊎◌, ℕ, Bool, cond, List, [], length, map, Some, slice_get}
 use Rattle.std.specs.List.{list_any}
 use Rattle.std.specs.List.Sorted.{IsStrictlySortedBy}
 use Rattle.samr_box.specs.declared.vector.IVec.{IVec}
@@ -30,6 +30,10 @@ pub record IsBased (edges : List Link) (field : List Grid) : Type 0 where
 
 abbrev pub AreBased : List Link → List (List Grid) → Type 0
 AreBased edges patches = (f : ℕ) (field : List Grid) → slice_get patches f ≡ Some field → IsBased edges field
+
+-- patches of so many fields at the bases of edges; where there are no edges, none will do
+abbrev pub HaveNumber : List Link → List (List Grid) → ℕ → Type 0
+HaveNumber edges patches n = ((edges ≡ []) × (patches ≡ [])) ⊎ (length patches ≡ n)
 
 -- a box of the list has the cell
 abbrev pub has : List Owned → IVec → Bool

@@ -1,5 +1,5 @@
 -- What a rank has before the stage `Values`, and once it has packed and told its parcels.
-use Rattle.std.specs.Prelude.{◌≡◌, ℕ, ◌<◌, List, [], length, map, Option, Some, None}
+use Rattle.std.specs.Prelude.{◌≡◌, ◌⊎◌, ℕ, ◌<◌, List, [], length, map, Option, Some, None}
 use Rattle.samr_box.specs.declared.vector.IVec.{IVec}
 use Rattle.samr_box.specs.Corners.{Corners}
 use Rattle.samr_level.specs.declared.parts.Pair.{Pair}
@@ -19,11 +19,15 @@ abbrev pub KnowsOld : Option Pair → Renewing → ℕ → Type 0
 KnowsOld (Some p) w r = p ≡ pair w.frame w.width w.ratio w.ratio w.news w.olds r
 KnowsOld None w r = w.olds ≡ []
 
+-- patches of each field of the old level; where there was no such level, none will do
+abbrev pub HasFields : Renewing → List (List Grid) → Type 0
+HasFields w patches = ((w.olds ≡ []) × (patches ≡ [])) ⊎ (length patches ≡ length w.rules)
+
 -- its patches of the old level and of the level below
 pub record HasPatches (patches coarse : List (List Grid)) (rules : List Rules) (w : Renewing) (r : ℕ) : Type 0 where
   pub same_rules : rules ≡ w.rules
   pub same_values : HasValues w.values (own r w.olds) patches
-  pub fields : length patches ≡ length w.rules
+  pub fields : HasFields w patches
   pub coarse_values : HasValues w.coarse_values (own r w.coarser) coarse
   pub coarse_fields : length coarse ≡ length w.rules
 

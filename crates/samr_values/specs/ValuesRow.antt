@@ -7,9 +7,11 @@ use Rattle.samr_box.specs.Corners.{Corners, met}
 use Rattle.samr_box.specs.Ratios.{coarsened}
 use Rattle.samr_box.specs.Space.{is_zero}
 use Rattle.samr_level.specs.Refs.{Link}
+use Rattle.samr_level.specs.RefOrders.{in_order}
 use Rattle.samr_data.specs.Values.{listed}
 use Rattle.samr_peers.specs.Peers.{peer_row}
 use Rattle.samr_data.specs.declared.parcel.Parcel.{Parcel}
+use Rattle.samr_data.specs.ParcelOrder.{parcel_cmp}
 use Rattle.samr_values.specs.Values.{Renewing, old_ups, coarse_ups, to_olds, downs}
 
 -- the values of those cells of an edge's base that lie in its head, or under it; the domain has no cell of an image at another shift than 0
@@ -30,10 +32,14 @@ abbrev pub field_parcels : ℕ → IVec → (IVec → ℕ) → (IVec → ℕ) �
 field_parcels f step values coarse_values olds coarser =
     filter_map (λ e. old_parcel f values e) olds ++ filter_map (λ e. coarse_parcel f step coarse_values e) coarser
 
--- for a rank, field by field along edges from old boxes and from boxes of the level below
-abbrev pub parcels_by : IVec → (ℕ → IVec → ℕ) → (ℕ → IVec → ℕ) → List Link → List Link → ℕ → ℕ → List Parcel
-parcels_by step values coarse_values olds coarser fields to =
+-- for a rank, of each field along edges from old boxes and from boxes of the level below
+abbrev pub packed_by : IVec → (ℕ → IVec → ℕ) → (ℕ → IVec → ℕ) → List Link → List Link → ℕ → ℕ → List Parcel
+packed_by step values coarse_values olds coarser fields to =
     flat_map (λ f. field_parcels f step (values f) (coarse_values f) (filter (λ e. leads_to to e) olds) (filter (λ e. leads_to to e) coarser)) (range_with_len 0 fields)
+
+-- the same in order: by edge, then those of old boxes before those of the level below, and then by field
+abbrev pub parcels_by : IVec → (ℕ → IVec → ℕ) → (ℕ → IVec → ℕ) → List Link → List Link → ℕ → ℕ → List Parcel
+parcels_by step values coarse_values olds coarser fields to = in_order parcel_cmp (packed_by step values coarse_values olds coarser fields to)
 
 -- what a rank sends to another: the values of its old boxes, and those of its boxes of the level below
 unfoldable pub parcels : Renewing → ℕ → ℕ → List Parcel

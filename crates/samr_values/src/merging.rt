@@ -21,7 +21,7 @@ ghost use Rattle.samr_values.specs.Merging.{merged_by, merged_along, merged_to, 
 
 use crate::packing::{base_of, head_of, leading_to, patch_of};
 use samr_box::{IBox, IVec, Listed, Ratio, cells, coarsen, meet, refine};
-use samr_data::{Parcel, Patch, cell_at};
+use samr_data::{Parcel, Patch, cell_at, in_parcel_order};
 use samr_level::Edge;
 use samr_ops::{CoarsenRule, coarsen_values};
 use std::alloc::{AllocError as NoMemory, Global};
@@ -176,7 +176,7 @@ fn merged_fields(
     Ok(parcels)
 }
 
-/// The values for the heads that a rank owns, field by field.
+/// The values for the heads that a rank owns, by edge and then by field.
 pub fn merged_to(
     alloc: Global,
     merges: &[Merge],
@@ -189,7 +189,7 @@ pub fn merged_to(
 {
     let leading = leading_to(alloc, to, edges)?;
     let parcels = merged_fields(alloc, merges, fine, leading.as_slice())?;
-    Ok(parcels)
+    Ok(in_parcel_order(parcels))
 }
 
 /// How each field is merged.

@@ -1,14 +1,14 @@
 //! The parcels that a rank has for another, of old boxes and of coarse ones.
 
-ghost use Rattle.std.specs.Prelude.{◌≡◌, ℕ, ◌++◌, ◌<◌, filter, length, OnOk, IfOk};
+ghost use Rattle.std.specs.Prelude.{◌≡◌, ℕ, ◌++◌, ◌<◌, length, OnOk, IfOk};
 ghost use Rattle.std.specs.List.{flat_map, range_with_len};
 ghost use Rattle.samr_box.specs.declared.vector.IVec.{IVec as Cell};
 ghost use Rattle.samr_values.specs.Patches.{HasField, HaveFields, IsBased, AreBased};
-ghost use Rattle.samr_values.specs.ValuesRow.{leads_to, field_parcels};
+ghost use Rattle.samr_values.specs.ValuesRow.{field_parcels, parcels_by};
 
 use crate::packing::{leading_to, push_coarse, push_old};
 use samr_box::{Listed, Ratio};
-use samr_data::{Parcel, Patch};
+use samr_data::{Parcel, Patch, in_parcel_order};
 use samr_level::Edge;
 use std::alloc::{AllocError as NoMemory, Global};
 
@@ -65,7 +65,7 @@ fn parcels_along(
     Ok(parcels)
 }
 
-/// The parcels for a rank, along a rank's edges from its old boxes and from its boxes of the level below.
+/// The parcels for a rank, along a rank's edges from its old boxes and from its boxes of the level below, by edge.
 pub fn parcels_for(
     alloc: Global,
     to: u16,
@@ -80,7 +80,7 @@ pub fn parcels_for(
     requires based { AreBased olds.now patches.now }
     requires coarse_based { AreBased coarser.now coarse_patches.now }
     ensures { IfOk result (λ all. (values coarse_values : ℕ → Cell → ℕ) → HaveFields values patches.now → HaveFields coarse_values coarse_patches.now
-        → all.items ≡ flat_map (λ f. field_parcels f step (values f) (coarse_values f) (filter (λ e. leads_to to e) olds.now) (filter (λ e. leads_to to e) coarser.now)) (range_with_len 0 (length patches.now))) }
+        → all.items ≡ parcels_by step values coarse_values olds.now coarser.now (length patches.now) to) }
 {
     let olds = leading_to(alloc, to, olds)?;
     let coarser = leading_to(alloc, to, coarser)?;
@@ -92,5 +92,5 @@ pub fn parcels_for(
         patches,
         coarse_patches,
     )?;
-    Ok(parcels)
+    Ok(in_parcel_order(parcels))
 }

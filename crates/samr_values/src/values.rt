@@ -1,13 +1,13 @@
 //! The stage that gives a new level its values.
 
-ghost use Rattle.std.specs.Prelude.{◌≡◌, ℕ, ◌++◌, ◌<◌, IfOk, length, map};
-ghost use Rattle.std.specs.List.{flat_map};
+ghost use Rattle.std.specs.Prelude.{◌≡◌, ℕ, ◌++◌, ◌<◌, [], IfOk, length, map};
+ghost use Rattle.std.specs.List.{All, flat_map};
 ghost use Rattle.std.specs.Option.{option_map};
 ghost use Rattle.samr_box.specs.declared.vector.IVec.{IVec as Cell};
 ghost use Rattle.samr_stage.specs.declared.stage.Held.{Held};
 ghost use Rattle.samr_stage.specs.Row.{heard, column};
 ghost use Rattle.samr_peers.specs.PeerLaws.{heavy};
-ghost use Rattle.samr_values.specs.Patches.{HaveFields, AreBased};
+ghost use Rattle.samr_values.specs.Patches.{HaveFields, AreBased, HaveNumber};
 ghost use Rattle.samr_values.specs.Values.{Renewing, renewed};
 ghost use Rattle.samr_values.specs.ValuesRow.{values_row, parcels_by};
 ghost use Rattle.samr_values.specs.ValuesParts.{HasOld, HasEdges, HasPacked, Waits};
@@ -88,15 +88,76 @@ fn letters_for(
     Ok(letters)
 }
 
+/// Fields without patches.
+fn empty_fields(alloc: Global, count: usize) -> Result<Vec<Listed<Patch>>, NoMemory>
+    ensures count { IfOk result (λ v. length v.items ≡ count) }
+    ensures empty { IfOk result (λ v. All (λ field. field ≡ []) v.items) }
+{
+    let mut fields = Vec::new(alloc);
+    'each: for _field in 0..count {
+        fields.push(Listed::new(alloc))?;
+    }
+    Ok(fields)
+}
+
+/// The first list, where it has members; else the second.
+fn either<'b>(some: &'b [Listed<Patch>], none: &'b [Listed<Patch>]) -> &'b [Listed<Patch>]
+    ensures some { 0 < length some.now → result.now ≡ some.now }
+    ensures none { some.now ≡ [] → result.now ≡ none.now }
+{
+    if some.is_empty() {
+        return none;
+    }
+    some
+}
+
 impl<'a, R: Refines, B: Bounds, U: Updates> Values<'a, R, B, U> {
     /// For a rank with these boxes of a new level, these overlaps of it with the old level of its number, where there was one, and
     /// with the level below, from which `step` leads to the new one. It has these patches of the old level and of the one below, field
-    /// by field and box by box in corner order. Each field has a strategy.
+    /// by field and box by box in corner order; where there was no old level, its patches of it may have no fields. Each field has a
+    /// strategy.
     ///
     /// # Errors
     ///
     /// Where memory is short.
     pub fn start(
+        alloc: Global,
+        rank: u16,
+        news: &[IBox],
+        same: Option<&Pair>,
+        coarser: &Pair,
+        step: Ratio,
+        patches: &[Listed<Patch>],
+        coarse_patches: &[Listed<Patch>],
+        strategies: &'a [Strategy<R, B, U>],
+    ) -> Result<Values<'a, R, B, U>, NoMemory>
+        requires few { length strategies.now < 256 }
+        requires fields { HaveNumber (back_edges (option_map (λ p. p.now) same)) patches.now (length strategies.now) }
+        requires coarse_fields { length coarse_patches.now ≡ length strategies.now }
+        requires based { AreBased (back_edges (option_map (λ p. p.now) same)) patches.now }
+        requires coarse_based { AreBased coarser.now.back.edges coarse_patches.now }
+        ensures { IfOk result (λ stage. (w : Renewing) (r : ℕ)
+            → HasOld rank news.now (option_map (λ p. p.now) same.entry) coarser.now step patches.now coarse_patches.now strategies.now w r
+            → ⟦<Values<'a, R, B, U> as Stage>⟧.starts stage w r) }
+    {
+        let none = empty_fields(alloc, strategies.len())?;
+        let olds = either(patches, none.as_slice());
+        let stage = Values::begun(
+            alloc,
+            rank,
+            news,
+            same,
+            coarser,
+            step,
+            olds,
+            coarse_patches,
+            strategies,
+        )?;
+        Ok(stage)
+    }
+
+    /// The same where the old patches have all fields.
+    fn begun(
         alloc: Global,
         rank: u16,
         news: &[IBox],
@@ -214,7 +275,7 @@ fn made<'a, R: Refines, B: Bounds, U: Updates>(
 impl<'a, R: Refines, B: Bounds, U: Updates> Stage for Values<'a, R, B, U> {
     type Body = Listed<Parcel>;
 
-    type Out = Vec<Listed<Patch>>;
+    type Out = Listed<Listed<Patch>>;
 
     ghost Whole = { Renewing };
 
@@ -222,7 +283,7 @@ impl<'a, R: Refines, B: Bounds, U: Updates> Stage for Values<'a, R, B, U> {
 
     ghost says = { values_row };
 
-    ghost gives = { λ w rank out. out.items ≡ renewed w rank };
+    ghost gives = { λ w rank out. out ≡ renewed w rank };
 
     ghost weight_of = { λ _. 1 };
 
@@ -247,14 +308,14 @@ impl<'a, R: Refines, B: Bounds, U: Updates> Stage for Values<'a, R, B, U> {
         self,
         alloc: Global,
         held: Vec<Held<Listed<Parcel>>>,
-    ) -> Result<Vec<Listed<Patch>>, NoMemory>
+    ) -> Result<Listed<Listed<Patch>>, NoMemory>
         requires { (w : Renewing) × (rank : ℕ)
             × (Waits self.rank self.step self.boxes.items self.own.items self.senders.items self.strategies.now w rank × (length self.strategies.now < 256))
             × (held.items ≡ heard (column (values_row w) rank) w.ranks) }
         ensures { IfOk result (λ out. (w : Renewing) (rank : ℕ)
             → Waits self.entry.rank self.entry.step self.entry.boxes.items self.entry.own.items self.entry.senders.items self.entry.strategies.now w rank
             × (length self.entry.strategies.now < 256)
-            → held.items ≡ heard (column (values_row w) rank) w.ranks → out.items ≡ renewed w rank) }
+            → held.items ≡ heard (column (values_row w) rank) w.ranks → out ≡ renewed w rank) }
     {
         let all = gathered(alloc, self.own, held)?;
         let fields = renewed_fields(
@@ -264,7 +325,7 @@ impl<'a, R: Refines, B: Bounds, U: Updates> Stage for Values<'a, R, B, U> {
             all.as_slice(),
             self.strategies,
         )?;
-        Ok(fields)
+        Ok(Listed::from_vec(fields))
     }
 
     ghost positive = { λ _ _ _ _ _. heavy };

@@ -74,12 +74,12 @@ pub fn values_all<R: Refines, B: Bounds, U: Updates>(
     patches: &[Listed<Listed<Patch>>],
     coarse_patches: &[Listed<Listed<Patch>>],
     strategies: &[Strategy<R, B, U>],
-) -> Result<Vec<Vec<Listed<Patch>>>, NoMemory>
+) -> Result<Vec<Listed<Listed<Patch>>>, NoMemory>
     requires few { length news.now < 2 ^ 16 }
     requires fields { length strategies.now < 2 ^ 8 }
     requires parts { (w : Renewing) × HaveAllOld news.now same.now coarser.now step patches.now coarse_patches.now strategies.now w }
     ensures { IfOk result (λ outs. (w : Renewing) → HaveAllOld news.now same.now coarser.now step patches.now coarse_patches.now strategies.now w
-        → (length outs.items ≡ w.ranks) × AreResults (λ w r out. out.items ≡ renewed w r) w outs.items) }
+        → (length outs.items ≡ w.ranks) × AreResults (λ w r out. out ≡ renewed w r) w outs.items) }
 {
     let stages = stages_of(
         alloc,

@@ -1,7 +1,7 @@
 //! The laws of the wholes of stages, each as the contract of a function.
 
 ghost use Rattle.samr_wholes.specs.Laws.{ClustersCanBeMade, BalanceCanBeMade, ModifyingCanBeMade, BridgesCanBeMade, BridgesGoDown};
-ghost use Rattle.samr_wholes.specs.Passing.{TagsPassOn, ClustersCanBeCut, PairsPassOn, PairsAreRefined};
+ghost use Rattle.samr_wholes.specs.Passing.{TagsPassOn, CoversHaveRoom, ClustersCanBeCut, PairsPassOn, PairsAreRefined};
 
 /// What a pass clusters can be clustered, and the clusters that the stages make are those of the pass.
 pub fn clusterings()
@@ -26,9 +26,10 @@ pub fn bridges()
     ensures below { BridgesGoDown }
 {}
 
-/// The stages of a pass hand on what the next ones need: tags to the clustering, overlaps with clusters to the cut and
+/// The stages of a pass hand on what the next ones need: new boxes two levels above to the cover, tags to the clustering, overlaps with clusters to the cut and
 /// the modification, and overlaps with the pieces, refined, to the bridges.
 pub fn handing_on()
+    ensures rooms { CoversHaveRoom }
     ensures tags { TagsPassOn }
     ensures edges { PairsPassOn }
     ensures cuts { ClustersCanBeCut }

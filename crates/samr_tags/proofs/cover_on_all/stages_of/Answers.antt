@@ -66,7 +66,7 @@ each-preserved c =
           let mine : c.in-Some.own ≡ get_or fields rank c.in-Some.own = at.1 ∙ ap (λ (k : ℕ). get_or fields k c.in-Some.own) before.1 in
           let ranks : c.len-ranks.result ≡ w.ranks = omega (arith, c.len-ranks.ensures, c.args.fields.ok.0, all) in
           let has = has_covers d fields covers c.args.nest c.args.upper c.args.lower w h rank c.len-ranks.result c.in-Some.own c.index-covers-place.result within ranks mine pair in
-          each_more (λ k s. HasNeeds s.rank s.needs s.fields.items s.edges.items s.addressees.items s.senders.items w k)
+          each_more (λ k s. HasNeeds s.rank s.needs s.fields s.edges.items s.addressees.items s.senders.items w k)
           c.each.stages.items c.push.new.self.items rank c.in_ok-stage.stage before.0 (before.2 w h) (c.in_ok-stage.ensures w rank has) c.in_ok-push.ensures.items,
     )
 

@@ -10,4 +10,4 @@ invariant-each l =
     (length l.stages.items ≡ l.rank)
     × (length l.yielded ≡ l.rank)
     × ((w : Covering) → HaveAllCovers l.fn.d l.fn.fields.items l.covers l.fn.nest l.fn.upper l.fn.lower w → (k : ℕ) (s : Cover)
-    → slice_get l.stages.items k ≡ Some s → HasNeeds s.rank s.needs s.fields.items s.edges.items s.addressees.items s.senders.items w k)
+    → slice_get l.stages.items k ≡ Some s → HasNeeds s.rank s.needs s.fields s.edges.items s.addressees.items s.senders.items w k)

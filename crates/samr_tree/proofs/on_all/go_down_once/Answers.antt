@@ -2,7 +2,7 @@ use Rattle.std.proofs.Common.{◌≡◌, ◌<◌, ◌∙◌, sym, arith, length}
 use Rattle.samr_tree.specs.TellDown.{IsTelling}
 use Rattle.samr_tree.specs.TreeSum.{tellings_at}
 use Rattle.samr_tree.specs.TreeLaws.{told_ranks_at}
-use Rattle.samr_tree.proofs.TreeCourse.{down_part}
+use Rattle.samr_tree.proofs.Seating.{down_part}
 use Rattle.samr_tree.proofs.OnAllLemmas.{each_more, number_read, after_down}
 use Rattle.samr_tree.proofs.on_all.go_down_once.Goals as goal
 
@@ -13,7 +13,7 @@ each-preserved c =
     let before = c.each.invariant in
     let within : c.each.rank < length values = omega arith in
     let has = number_read whole.number (length values) c.args.numbers.now c.requires.before c.from.result c.each.rank c.from.ensures within in
-    let part = c.in_ok-start.ensures.starts whole c.each.rank (down_part values c.each.rank _ c.args.round _ within (omega arith) has) in
+    let part = c.in_ok-start.ensures.starts whole c.each.rank (down_part values c.each.rank _ c.args.round _ c.requires.summable within (omega arith) has) in
     (omega (arith, c.in_ok-push.ensures.len, before.0), each_more (λ k s. IsTelling s.rank s.ranks s.round s.number whole k) c.each.stages.items c.push.new.self.items c.each.rank c.in_ok-start.field-0 before.0 before.1 part c.in_ok-push.ensures.items)
 
 pub exchange-requires-clause-parts : goal.exchange-requires-clause-parts

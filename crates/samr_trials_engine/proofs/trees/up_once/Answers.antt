@@ -2,7 +2,7 @@ use Rattle.std.proofs.Common.{◌≡◌, ◌<◌, ◌∙◌, sym, arith, length}
 use Rattle.samr_tree.specs.SumUp.{IsSum}
 use Rattle.samr_tree.specs.TreeSum.{sums_at}
 use Rattle.samr_tree.specs.TreeLaws.{ranks_at}
-use Rattle.samr_tree.proofs.TreeCourse.{up_part}
+use Rattle.samr_tree.proofs.Seating.{up_part}
 use Rattle.samr_tree.proofs.OnAllLemmas.{each_more, number_read, after_up}
 use Rattle.samr_trials_engine.proofs.trees.up_once.Goals as goal
 

@@ -1,7 +1,8 @@
-use Rattle.std.proofs.Common.{◌<◌, ◌∙◌, ap, subst, sym, refl, length, map}
+use Rattle.std.proofs.Common.{◌≡◌, ◌<◌, ◌∙◌, ap, subst, sym, arith, refl, length, map}
 use Rattle.std.specs.Prelude.{List, false}
 use Rattle.std.specs.List.{All, range_with_len}
 use Rattle.samr_box.specs.declared.vector.IVec.{IVec}
+use Rattle.samr_box.specs.Vector.{times}
 use Rattle.samr_box.specs.Corners.{IsBox}
 use Rattle.samr_box.specs.Space.{finer}
 use Rattle.samr_box.proofs.Members.{member_of_All}
@@ -54,7 +55,7 @@ cover_all-requires-clause-parts c =
         same_frame = refl;
         same_ranks = c.in_ok-fields.ensures.length;
         same_tags = λ rank own got.
-            subst (λ (l : List Owned). AreTags (own_boxes rank l) (λ x. false) own.items) c.as_slice.ensures.value (c.in_ok-fields.ensures.each rank own got);
+            subst (λ (l : List Owned). AreTags (own_boxes rank l) (λ x. false) own) c.as_slice.ensures.value (c.in_ok-fields.ensures.each rank own got);
         same_covers =
             c.as_slice-2.ensures.value ∙ c.in_ok-covers.ensures
             ∙ ap (λ (r : IVec). map (λ rank. pair c.args.d.now c.args.width r level.ratio c.args.boxes.items level.boxes.items rank) (range_with_len 0 c.args.ranks)) c.in-Some.ensures.value;

@@ -1,7 +1,8 @@
-use Rattle.std.proofs.Common.{◌≡◌, ◌∙◌, ap, refl, inl, inr}
-use Rattle.std.specs.Prelude.{Bool, true, false, ◌&&◌}
-use Rattle.samr_box.specs.Corners.{holds}
-use Rattle.samr_sign.specs.Fields.{Field, tagged}
+use Rattle.std.proofs.Common.{◌≡◌, ◌∙◌, ap, refl, inl, inr, subst, sym}
+use Rattle.std.proofs.lemmas.List.{take_all}
+use Rattle.std.specs.Prelude.{Bool, true, false, ◌&&◌, List}
+use Rattle.samr_box.specs.Corners.{Corners, holds}
+use Rattle.samr_sign.specs.Fields.{Field, tagged, AreTags}
 use Rattle.samr_tags.proofs.AllMarks.{one_more_field, last_or_before}
 use Rattle.samr_trials_stages.proofs.covers.empty_fields.Goals as goal
 
@@ -22,3 +23,8 @@ loop-bx-preserved c = record {
     | inr here ↦ ap (λ (v : Field). tagged v x) here ∙ c.in_ok-new.ensures.none x ∙ none_there (holds f.bx x)
   ];
 }
+
+pub returns : goal.returns
+returns c =
+    subst (AreTags c.args.boxes.now (λ x. false)) (sym c.from_vec.ensures)
+    (subst (λ (l : List Corners). AreTags l (λ x. false) c.loop-bx.fields.items) (take_all c.loop-bx.bx-index c.args.boxes.now c.loop-bx-test.false) c.loop-bx.invariant)

@@ -2,7 +2,7 @@ use Rattle.std.proofs.Common.{◌≡◌, ◌∙◌, refl, arith}
 use Rattle.std.proofs.lemmas.Int.{ints}
 use Rattle.std.specs.Prelude.{pos}
 use Rattle.samr_box.specs.declared.vector.IVec.{IVec}
-use Rattle.samr_box.specs.Vector.{times, IsRatio}
+use Rattle.samr_box.specs.Vector.{times, IsRatio, FitsVector}
 use Rattle.samr_box.proofs.Products.{mul_comm}
 use Rattle.samr_level.proofs.Reaches.{Bounded, bounded-times, FitsVector-bounded}
 use Rattle.samr_trials_stages.proofs.covers.product.Goals as goal

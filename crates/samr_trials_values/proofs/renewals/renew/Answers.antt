@@ -13,7 +13,7 @@ returns g c =
     let is : c.in-Some.region ≡ area =
     c.in-Some.ensures.value ∙ ap (λ (l : List Corners). let a : Area = record { frame = c.args.frame; parts = l } in a) c.in_ok-copied.ensures.items in (
       c.in_ok-outs.ensures.count,
-      subst (λ (w : Renewing). AreResults (λ w rank out. out.items ≡ renewed w rank) w c.in_ok-outs.outs.items)
+      subst (λ (w : Renewing). AreResults (λ w rank out. out ≡ renewed w rank) w c.in_ok-outs.outs.items)
           (same_blocks c.in-Some.region area c.args.block c.args.step c.args.fine_block c.args.news c.args.olds c.args.ranks c.args.width c.args.bound c.as_slice-rules.result.now c.args.strategies.now
           is (c.as_slice-rules.ensures.value ∙ c.in_ok-list.ensures.same))
           c.in_ok-outs.ensures.values,

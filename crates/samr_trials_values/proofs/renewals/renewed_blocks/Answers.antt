@@ -31,7 +31,7 @@ pub returns-clause-values : goal.returns-clause-values
 returns-clause-values g c =
     let over = c.as_slice-blocks.ensures.value ∙ c.in_ok-over.ensures.value ∙ ap (λ (a : Area). level0 a c.args.fine_block c.args.ranks) c.requires.fine in
     let blocks = fine_blocks c.args.region.now c.args.step c.args.fine_block c.args.ranks in
-    subst (λ (w : Renewing). AreResults (λ w rank out. out.items ≡ renewed w rank) w c.in_ok-outs.outs.items)
+    subst (λ (w : Renewing). AreResults (λ w rank out. out ≡ renewed w rank) w c.in_ok-outs.outs.items)
     (same_renewing c.frame.result.now c.args.region.now.frame c.args.step c.args.ranks c.args.width c.args.bound c.args.rules.now
     c.as_slice.result.now (kept c.args.news blocks) c.as_slice-2.result.now (kept c.args.olds blocks) c.as_slice-3.result.now (level0 c.args.region.now c.args.block c.args.ranks)
     c.frame.ensures

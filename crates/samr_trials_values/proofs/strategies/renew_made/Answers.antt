@@ -15,5 +15,5 @@ returns g c =
     IfSome c.in_ok-made.made
     (λ outs.
     (length outs.items ≡ c.args.ranks)
-    × AreResults (λ w rank out. out.items ≡ renewed w rank) (renewing area c.args.block c.args.step c.args.fine_block c.args.news c.args.olds c.args.ranks c.args.width c.args.bound l) outs.items))
+    × AreResults (λ w rank out. out ≡ renewed w rank) (renewing area c.args.block c.args.step c.args.fine_block c.args.news c.args.olds c.args.ranks c.args.width c.args.bound l) outs.items))
     (c.as_slice.ensures.value ∙ c.in_ok-list.ensures) c.in_ok-made.ensures

@@ -8,5 +8,5 @@ merged_fields-requires c =
 
 pub returns : goal.returns
 returns c = λ values has.
-    merged_to_is c.args.merges.now values c.args.edges.now c.as_slice.result.now c.args.to c.in_ok-parcels.parcels.items (c.as_slice.ensures.value ∙ c.in_ok-leading.ensures)
-    (c.in_ok-parcels.ensures values has)
+    merged_to_is c.args.merges.now values c.args.edges.now c.as_slice.result.now c.args.to c.in_ok-parcels.parcels.items c.in_parcel_order.result.items (c.as_slice.ensures.value ∙ c.in_ok-leading.ensures)
+    (c.in_ok-parcels.ensures values has) c.in_parcel_order.ensures

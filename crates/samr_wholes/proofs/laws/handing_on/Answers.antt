@@ -3,8 +3,12 @@ use Rattle.std.proofs.Common.{refl}
 use Rattle.samr_mesh.specs.Passes.{clusters_of}
 use Rattle.samr_mesh.proofs.Passing.{cluster_room}
 use Rattle.samr_mesh.proofs.Scaling.{nest_at}
+use Rattle.samr_wholes.proofs.CoverRooms.{rooms}
 use Rattle.samr_wholes.proofs.PassedOn.{tags_on, tags_alone, cluster_inside, cluster_edges, pairs_refined}
 use Rattle.samr_wholes.proofs.laws.handing_on.Goals as goal
+
+pub returns-clause-rooms : goal.returns-clause-rooms
+returns-clause-rooms c = λ p w rank run above. rooms p w run above rank
 
 pub returns-clause-tags : goal.returns-clause-tags
 returns-clause-tags c = λ p w rank fields. (λ h. tags_on p w rank fields h, λ none h. tags_alone p w rank fields none h)

@@ -11,4 +11,4 @@ returns-clause-letters c = λ w rank h.
     c.each.invariant
     ∙ ap (λ (l : List ℕ). map (λ to. (to, needed_of self.needs to self.edges.items)) l)
     (take_all c.each.to-index c.deref-to-items.result.now c.each-test.false ∙ c.deref-to-items.ensures.value)
-    ∙ tells self.rank self.needs self.fields.items self.edges.items self.addressees.items self.senders.items w rank h
+    ∙ tells self.rank self.needs self.fields self.edges.items self.addressees.items self.senders.items w rank h

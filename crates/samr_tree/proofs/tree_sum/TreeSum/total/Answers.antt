@@ -1,16 +1,6 @@
-use Rattle.std.proofs.Common.{refl}
-use Rattle.samr_tree.proofs.TreeSteps.{over_is, not_over_is}
+use Rattle.std.proofs.Common.{ap, ◌∙◌, sum}
+use Rattle.samr_tree.proofs.Seating.{all_values}
 use Rattle.samr_tree.proofs.tree_sum.TreeSum.total.Goals as goal
 
-pub returns-in-Over-clause-over : goal.returns-in-Over-clause-over
-returns-in-Over-clause-over c = λ entered placed.
-    let self = c.args.self.now in
-    (λ yes. over_is self.numbers self.rank self.at self.state placed c.in-Over.total c.in-Over.is, λ over. refl)
-
-pub returns-in-Up : goal.returns-in-Up
-returns-in-Up c =
-    let self = c.args.self.now in
-    record {
-      over = λ entered placed. (λ no. cc, λ over. absurd (not_over_is self.numbers self.rank self.at self.state placed c.in-Up.is over));
-      total = λ entered placed. tt;
-    }
+pub returns-in-Some-clause-total : goal.returns-in-Some-clause-total
+returns-in-Some-clause-total c = λ entered stands. c.in-Some.ensures.given entered stands ∙ ap sum (all_values _)

@@ -37,6 +37,7 @@ returns g c = λ w rank h are.
     let self = c.args.self in
     let all = c.as_slice-2.result.now in
     let out = c.in_ok-fields.fields.items in
-    renews self.rank self.step self.boxes.items self.own.items self.senders.items self.strategies.now w rank h.0 c.args.held.items are
+    c.from_vec.ensures
+    ∙ renews self.rank self.step self.boxes.items self.own.items self.senders.items self.strategies.now w rank h.0 c.args.held.items are
     all (c.as_slice-2.ensures.value ∙ c.in_ok-all.ensures) out
     (subst (λ (l : List Corners). IsRenewedFrom l self.step all self.strategies.now out) c.as_slice.ensures.value c.in_ok-fields.ensures)

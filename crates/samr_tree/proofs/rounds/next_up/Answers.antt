@@ -1,6 +1,0 @@
-use Rattle.std.proofs.Common.{◌-◌, arith}
-use Rattle.samr_tree.proofs.TreeLemmas.{depth-le}
-use Rattle.samr_tree.proofs.rounds.next_up.Goals as goal
-
-pub overflow_add-round-end : goal.overflow_add-round-end
-overflow_add-round-end c = omega (arith, depth-le (c.args.ranks - 1), c.height-round-end.ensures.bottom)
