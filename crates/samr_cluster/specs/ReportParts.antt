@@ -1,5 +1,5 @@
 -- What a rank has in a Report round.
-use Rattle.std.specs.Prelude.{◌≡◌, ℕ, ◌<◌, ◌^◌, Bool, not, nat_eq, List, length, filter, Some, slice_get, sum_by}
+use Rattle.std.specs.Prelude.{◌≡◌, ℕ, ◌<◌, ◌^◌, not, nat_eq, List, length, filter, Some, slice_get, sum_by}
 use Rattle.std.specs.List.{flat_map}
 use Rattle.std.specs.Ordering.{nat_cmp}
 use Rattle.samr_box.specs.declared.vector.IVec.{IVec}

@@ -22,11 +22,44 @@ pub enum Verdict {
     Parted(IBox, IBox),
 }
 
+impl Verdict {
+    /// The same verdict.
+    ///
+    /// # Errors
+    ///
+    /// Where memory is short.
+    pub fn copied(&self, alloc: Global) -> Result<Verdict, NoMemory>
+        ensures { IfOk result (λ v. v ≡ self.now) }
+    {
+        match self {
+            Verdict::Dropped => Ok(Verdict::Dropped),
+            Verdict::Taken(a) => Ok(Verdict::Taken(a.copied(alloc)?)),
+            Verdict::Parted(first, second) => Ok(Verdict::Parted(*first, *second)),
+        }
+    }
+}
+
 /// A verdict with the node that it is on.
 #[derive(Debug, Drop)]
 pub struct Ruling {
     pub node: IBox,
     pub verdict: Verdict,
+}
+
+impl Ruling {
+    /// The same ruling.
+    ///
+    /// # Errors
+    ///
+    /// Where memory is short.
+    pub fn copied(&self, alloc: Global) -> Result<Ruling, NoMemory>
+        ensures { IfOk result (λ r. r ≡ self.now) }
+    {
+        Ok(Ruling {
+            node: self.node,
+            verdict: self.verdict.copied(alloc)?,
+        })
+    }
 }
 
 /// A verdict on a node, and the ranks that are near the node, ascending.
@@ -84,17 +117,6 @@ pub fn judge_all(
     Ok(judged)
 }
 
-/// The same verdict.
-fn copied(alloc: Global, verdict: &Verdict) -> Result<Verdict, NoMemory>
-    ensures { IfOk result (λ v. v ≡ verdict.now) }
-{
-    match verdict {
-        Verdict::Dropped => Ok(Verdict::Dropped),
-        Verdict::Taken(a) => Ok(Verdict::Taken(a.copied(alloc)?)),
-        Verdict::Parted(first, second) => Ok(Verdict::Parted(*first, *second)),
-    }
-}
-
 /// Whether a rank is near the node that was judged.
 fn is_near(j: &Judged, rank: u16) -> bool
     ensures { result ≡ list_any (λ k. nat_eq k rank) j.now.near }
@@ -109,7 +131,7 @@ fn push_for(alloc: Global, rank: u16, j: &Judged, rulings: &mut Vec<Ruling>) -> 
     if is_near(j, rank) {
         rulings.push(Ruling {
             node: j.node,
-            verdict: copied(alloc, &j.verdict)?,
+            verdict: j.verdict.copied(alloc)?,
         })?;
     }
     Ok(())

@@ -1,0 +1,5 @@
+pub mod Formats
+pub mod Laws
+pub mod Wholes
+pub mod Examples
+pub mod ExampleLaws

@@ -1,0 +1,16 @@
+pub mod Lin
+pub mod LinVal
+pub mod LinearText
+pub mod Around
+pub mod LinearFill
+pub mod LinearFillRow
+pub mod LinearFillParts
+pub mod LinearSending
+pub mod LinearWriting
+pub mod FilledSoFar
+pub mod Laws
+pub mod Scratches
+pub mod Worked
+pub mod Staging
+pub mod StageLaws
+pub mod OfHierarchies

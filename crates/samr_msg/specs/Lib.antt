@@ -1,0 +1,5 @@
+pub mod Runs
+pub mod Places
+pub mod PassStops
+pub mod StepStops
+pub mod WholeRun

@@ -1,0 +1,2 @@
+pub mod PartsOfLevels
+pub mod PassesAbove

@@ -1,0 +1,2 @@
+mod TagStarts
+mod CoverStarts

@@ -1,0 +1,21 @@
+pub mod Steps
+pub mod Counting
+pub mod Scaling
+pub mod Missing
+pub mod NoFaults
+pub mod Accepting
+mod BoxLaws
+pub mod Wrapping
+pub mod MeshLaws
+pub mod Windowing
+pub mod FormLaws
+pub mod FormSteps
+pub mod NumberLaws
+pub mod WordLaws
+pub mod Firsts
+pub mod WorkedProofs
+pub mod FoldLaws
+pub mod Earlier
+pub mod AlikeLaws
+pub mod NearbyLaws
+pub mod MeetingLaws

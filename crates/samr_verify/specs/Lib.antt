@@ -1,0 +1,12 @@
+pub mod Faults
+pub mod Printed
+pub mod MeshFaults
+pub mod Soundness
+pub mod Windows
+pub mod ReportLines
+pub mod Form
+pub mod Verdicts
+pub mod Words
+pub mod Worked
+pub mod Deciding
+pub mod Nearby
