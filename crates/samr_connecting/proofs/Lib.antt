@@ -1,0 +1,4 @@
+pub mod NewBoxes
+pub mod OldLevels
+pub mod Sides
+pub mod Starts

@@ -1,0 +1,4 @@
+mod LoadSums
+mod OwnClusters
+mod OwnCuts
+pub mod CutBegins

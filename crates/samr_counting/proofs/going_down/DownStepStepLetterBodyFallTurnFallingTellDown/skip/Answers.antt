@@ -1,0 +1,17 @@
+use Rattle.std.proofs.Common.{◌≡◌, ◌+◌, arith, ap, sym, ◌∙◌, subst, false}
+use Rattle.samr_tree.specs.TreeSum.{goes_down}
+use Rattle.samr_tree.proofs.TreeTotals.{stays_down}
+use Rattle.samr_msg.specs.PassStops.{loads_of}
+use Rattle.samr_counting.proofs.LoadSums.{down_small, loads_length}
+use Rattle.samr_counting.proofs.going_down.DownStepStepLetterBodyFallTurnFallingTellDown.skip.Goals as goal
+
+pub overflow_add-result : goal.overflow_add-result
+overflow_add-result g c =
+    let h = c.requires.2 in
+    let small = down_small c.requires.0 c.requires.1 h.0.0.1 h.0.0.0.few h.0.0.0.within c.args.input.round h.1.same_round h.1.below in
+    omega (arith, small)
+
+pub returns-clause-after : goal.returns-clause-after
+returns-clause-after g c = λ w r h silent.
+    let still = subst (λ n. goes_down n w.round r ≡ false) (sym (loads_length w.at)) silent in
+    (h.0, record { same_round = ap (λ n. n + 1) h.1.same_round; same_number = h.1.same_number ∙ sym (stays_down (loads_of w.at) w.round r still); below = omega (arith, h.1.below) })
