@@ -1,0 +1,4 @@
+mod Apart
+mod Begun
+mod First
+mod Turning

@@ -1,0 +1,4 @@
+pub mod Rounds
+pub mod Fronts
+pub mod NodeLaws
+pub mod RoundLaws
