@@ -22,3 +22,5 @@ mod run;
 mod spellings;
 #[cfg(test)]
 mod tables;
+#[cfg(test)]
+mod verify;

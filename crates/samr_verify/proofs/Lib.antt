@@ -9,9 +9,13 @@ pub mod Wrapping
 pub mod MeshLaws
 pub mod Windowing
 pub mod FormLaws
-pub mod FormSteps
 pub mod NumberLaws
 pub mod WordLaws
+pub mod ReadLaws
+pub mod PartLaws
+pub mod HeadingLaws
+pub mod LineLaws
+pub mod MeaningLaws
 pub mod Firsts
 pub mod WorkedProofs
 pub mod FoldLaws
@@ -19,3 +23,9 @@ pub mod Earlier
 pub mod AlikeLaws
 pub mod NearbyLaws
 pub mod MeetingLaws
+pub mod CuttingLaws
+pub mod GatheringLaws
+pub mod VerdictLaws
+pub mod OneMeaning
+pub mod OneVerdict
+pub mod SoundTexts

@@ -32,3 +32,6 @@ held r m n small p q = ap (λ (k : ℤ). to_z w64 (of_z w64 k)) (same_number r m
 
 pub one_number : {E : Type 0} (r : Result ℤ E) (m n : ℤ) → IsNumber n → r ≡ Ok m → r ≡ Ok n → Some (to_z w64 (of_z w64 m)) ≡ Some n
 one_number r m n small p q = ap (λ (k : ℤ). Some k) (held r m n small p q)
+
+pub same_held : (m n : ℤ) → IsNumber n → m ≡ n → to_z w64 (of_z w64 m) ≡ n
+same_held m n small e = ap (λ (k : ℤ). to_z w64 (of_z w64 k)) e ∙ to_z-of_z w64 n (fits n small)

@@ -7,6 +7,10 @@ pub mod ReportLines
 pub mod Form
 pub mod Verdicts
 pub mod Words
+pub mod Reading
 pub mod Worked
 pub mod Deciding
 pub mod Nearby
+pub mod Cutting
+pub mod Gathering
+pub mod Standing

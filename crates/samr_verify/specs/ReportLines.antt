@@ -1,5 +1,5 @@
 -- The lines of a report, and what a line means: it is the text that the report prints of it.
-use Rattle.std.specs.Prelude.{◌≡◌, ℕ, ◌<◌, ◌^◌, pos, negsuc, Option, Some, None, List, [], ◌∷◌, ◌++◌, codes}
+use Rattle.std.specs.Prelude.{◌≡◌, ℕ, ◌<◌, ◌≤◌, ◌^◌, pos, negsuc, Option, Some, None, List, [], ◌∷◌, ◌++◌, codes}
 use Rattle.samr_box.specs.Vector.{alike, AtMost, Between, IsShift}
 use Rattle.samr_level.specs.Refs.{Owned}
 use Rattle.samr_sched.specs.declared.row.Row.{Row}
@@ -66,3 +66,7 @@ IsLine most End = Unit {0}
 abbrev pub IsMeaning : ℕ → List ℕ → Option Line → Type 0
 IsMeaning most text (Some l) = IsLine most l × (text ≡ line_text l)
 IsMeaning most text None = (l : Line) → IsLine most l → text ≡ line_text l → ⊥
+
+-- a text means one line at most
+abbrev pub MeaningsAreOne : Type 0
+MeaningsAreOne = (most : ℕ) (text : List ℕ) (a b : Line) → most ≤ 2 ^ 63 → IsMeaning most text (Some a) → IsMeaning most text (Some b) → a ≡ b

@@ -1,16 +1,22 @@
 -- The answer to a text: the first fault of its form, or of what it tells.
-use Rattle.std.specs.Prelude.{◌≡◌, ℕ, ◌+◌, ◌==◌, ◌&&◌, nat_lt, Bool, Option, Some, None, List, [], ◌∷◌, ◌++◌, map, length, sum_by, if◌then◌else◌}
+use Rattle.std.specs.Prelude.{◌≡◌, ℕ, ◌+◌, ◌≤◌, ◌^◌, ◌==◌, Bool, Option, Some, None, List, [], ◌∷◌, ◌++◌, map, length, sum_by, if◌then◌else◌}
 use Rattle.std.specs.List.{enumerate_from}
-use Rattle.samr_box.specs.Vector.{minus}
-use Rattle.samr_box.specs.Space.{is_zero}
+use Rattle.samr_box.specs.Lists.{Member}
 use Rattle.samr_problem.specs.Fields.{Fields}
+use Rattle.samr_problem.specs.Problems.{IsProblem}
+use Rattle.samr_verify.specs.ReportLines.{line_text}
+use Rattle.samr_verify.specs.Soundness.{IsFaultless}
 use Rattle.samr_verify.specs.declared.fault.Fault.{Fault}
 use Rattle.samr_verify.specs.declared.printed.PrintedLevel.{PrintedLevel}
 use Rattle.samr_verify.specs.Faults.{first_of}
 use Rattle.samr_verify.specs.MeshFaults.{mesh_fault}
 use Rattle.samr_verify.specs.declared.line.Line.{Line}
 use Rattle.samr_verify.specs.declared.place.Place.TheVariants.{Begun}
-use Rattle.samr_verify.specs.ReportLines.{IsMeaning}
+use Rattle.samr_verify.specs.Cutting.{lines_of, AreMeanings}
+use Rattle.samr_verify.specs.Gathering.{is_headed as is_headed_by, nothing, gathered}
+use Rattle.samr_verify.specs.Standing.{told}
+use Rattle.samr_verify.specs.declared.verdict.Verdict.{Verdict}
+use Rattle.samr_verify.specs.declared.verdict.Verdict.TheVariants.{Sound, Fault as Unsound}
 use Rattle.samr_verify.specs.Form.{LevelPart, StepPart, Report, level_lines, step_lines, report_lines, IsReport, form_fault}
 
 -- a level whose line has this number, and levels from one with this number on
@@ -41,39 +47,40 @@ meshes r = meshes_from 2 (enumerate_from 0 r.steps)
 
 -- kind 2, and all together
 abbrev pub is_headed : Fields → Report → Bool
-is_headed p r = nat_lt 0 r.ranks && (nat_lt r.ranks 17 && ((r.levels == p.levels) && is_zero (minus r.width p.width)))
+is_headed p r = is_headed_by p r.ranks r.levels r.width
 
 abbrev pub report_fault : Fields → Report → Option Fault
 report_fault p r = if is_headed p r then first_of (map (mesh_fault p r.ranks) (meshes r)) else Some (record { kind = 2; line = 1 })
 
-pub data Verdict : Type 0 where
-  Sound : ℕ → ℕ → ℕ → Verdict
-  Fails : Fault → Verdict
-
 abbrev pub verdict_by : Option Fault → List (List PrintedLevel) → Verdict
-verdict_by (Some f) ms = Fails f
+verdict_by (Some f) ms = Unsound f.kind f.line
 verdict_by None ms = Sound (length ms) (sum_by (λ m. sum_by (λ l. length l.boxes) m) ms) (sum_by (λ m. sum_by (λ l. length l.edges) m) ms)
 
 abbrev pub verdict : Fields → Report → Verdict
 verdict p r = verdict_by (report_fault p r) (meshes r)
 
--- a text as its lines, each with its line feed; what stands behind the last one is a line too
-abbrev pub put_before : ℕ → List (List ℕ) → List (List ℕ)
-put_before c [] = (c ∷ []) ∷ []
-put_before c (line ∷ lines) = (c ∷ line) ∷ lines
-
-unfoldable pub lines_of : List ℕ → List (List ℕ)
-lines_of [] = []
-lines_of (c ∷ cs) = if c == 10 then (10 ∷ []) ∷ lines_of cs else put_before c (lines_of cs)
-
-pub data AreMeanings (most : ℕ) : List (List ℕ) → List (Option Line) → Type 0 where
-  none : AreMeanings most [] []
-  more : (text : List ℕ) (o : Option Line) (texts : List (List ℕ)) (os : List (Option Line)) → IsMeaning most text o → AreMeanings most texts os
-      → AreMeanings most (text ∷ texts) (o ∷ os)
-
 -- the answer
 pub record IsVerdict (p : Fields) (text : List ℕ) (v : Verdict) : Type 0 where
   pub lines : List (Option Line)
   pub meant : AreMeanings p.levels (lines_of text) lines
-  pub ill_formed : (n : ℕ) → form_fault p Begun 1 lines ≡ Some n → v ≡ Fails (record { kind = 1; line = n })
+  pub ill_formed : (n : ℕ) → form_fault p Begun 1 lines ≡ Some n → v ≡ Unsound 1 n
   pub formed : (r : Report) → form_fault p Begun 1 lines ≡ None → IsReport p r → map (λ (l : Line). Some l) (report_lines r) ≡ lines → v ≡ verdict p r
+
+-- what the lines of a report tell, gathered line by line, is the verdict on it
+abbrev pub ReportsAreTold : Type 0
+ReportsAreTold = (p : Fields) (r : Report) → IsReport p r → told (gathered p nothing 1 (map (λ l. Some l) (report_lines r))) ≡ verdict p r
+
+-- a text has one verdict
+abbrev pub VerdictsAreOne : Type 0
+VerdictsAreOne = (p : Fields) (text : List ℕ) (v w : Verdict) → p.levels ≤ 2 ^ 63 → IsVerdict p text v → IsVerdict p text w → v ≡ w
+
+-- the promise of a text without fault: it is the text of a report, each of whose meshes is one of the problem with exactly its true overlaps
+pub record IsSoundText (p : Fields) (text : List ℕ) : Type 0 where
+  pub report : Report
+  pub form : IsReport p report
+  pub lines : lines_of text ≡ map line_text (report_lines report)
+  pub meshes_sound : (mesh : List PrintedLevel) → Member mesh (meshes report) → IsFaultless p report.ranks mesh
+
+abbrev pub SoundTextsAreSound : Type 0
+SoundTextsAreSound =
+    (p : Fields) (text : List ℕ) (m b e : ℕ) → IsProblem p → IsVerdict p text (Sound m b e) → IsSoundText p text
